@@ -168,7 +168,7 @@ static void shows(balkreyn_book *book)
                   "{\"moment\":50,\"root\":{\"cause\":null,\"deadline\":null,\"expiry\":\"fail\",\"id\":4,\"inner\":null,"
                   "\"joined\":false,\"joiner\":\"any\",\"owner\":0,\"shield\":false,\"stage\":\"open\",\"tasks\":["
                   "{\"id\":6,\"inner\":null,\"name\":\"ask\",\"stage\":\"waiting\",\"state\":\"unavailable\"}]}}"));
-    CHECK(is_text(balkreyn_journal(book, text, sizeof text), text, "tick 50\nopen 0 any\nfork 0 1 ask\n"));
+    CHECK(is_text(balkreyn_journal(book, text, sizeof text), text, "tick 50\nretire 0\nopen 0 any\nfork 0 1 ask\n"));
     CHECK(balkreyn_dump(book, text, 0) > 0 && text[0] == 't');
 }
 
@@ -182,10 +182,10 @@ static void has_times(balkreyn_book *book)
     CHECK(balkreyn_note(book, 100) == BALKREYN_DONE && balkreyn_note(book, 90) == BALKREYN_DONE);
     CHECK(balkreyn_bind(book, 6, TEXT("key"), 1) == BALKREYN_DONE);
     CHECK(is_text(balkreyn_timed_journal(book, 120, text, sizeof text), text,
-                  "tick 50\n# at 70\nopen 0 any\nfork 0 1 ask\n# at 90\nstart 1\nbind 1 key 1\n# at 120\n"));
+                  "tick 50\nretire 0\n# at 70\nopen 0 any\nfork 0 1 ask\n# at 90\nstart 1\nbind 1 key 1\n# at 120\n"));
     CHECK(balkreyn_unbind(book, 6) == BALKREYN_DONE && balkreyn_note(book, 120) == BALKREYN_DONE);
     CHECK(is_text(balkreyn_journal(book, text, sizeof text), text,
-                  "tick 50\nopen 0 any\nfork 0 1 ask\nstart 1\nbind 1 key 1\nunbind 1\n"));
+                  "tick 50\nretire 0\nopen 0 any\nfork 0 1 ask\nstart 1\nbind 1 key 1\nunbind 1\n"));
 }
 
 /* The same realm by lines. */
@@ -216,7 +216,7 @@ static void goes_by_lines(balkreyn_book *book)
     CHECK(is_text(LINE("closed 0 4"), reply, "closed\n"));
     CHECK(is_text(LINE("retire 0"), reply, "retired 5 7\n"));
     CHECK(balkreyn_note(book, 7) == BALKREYN_DONE); /* times begin anew */
-    CHECK(is_text(balkreyn_timed_journal(book, 7, reply, sizeof reply), reply, "tick 60\n# at 7\n"));
+    CHECK(is_text(balkreyn_timed_journal(book, 7, reply, sizeof reply), reply, "tick 60\nretire 0\n# at 7\n"));
 #undef LINE
 }
 
@@ -280,6 +280,32 @@ static void closes(balkreyn_book *book)
     CHECK(memcmp(text, "as it is", sizeof text) == 0);
 }
 
+/* The journal of a realm at its limit of load plays on a realm of the same limits, and leaves the same journal there. */
+static void plays_again(void)
+{
+    balkreyn_book full = BALKREYN_BOOK, fresh = BALKREYN_BOOK;
+    uint8_t journal[256], text[256];
+
+    CHECK(balkreyn_book_open(&full, 1, 1, 6) == BALKREYN_DONE && balkreyn_book_open(&fresh, 1, 1, 6) == BALKREYN_DONE);
+    CHECK(balkreyn_open(&full, MAIN, BALKREYN_ANY_OK, 0, 0, 0) == 1);
+    CHECK(balkreyn_begin_close(&full, MAIN, 1) == BALKREYN_DONE);
+    CHECK(balkreyn_end_close(&full, MAIN, 1) == BALKREYN_DONE);
+    CHECK(balkreyn_bind(&full, MAIN, TEXT("one"), 1) == BALKREYN_DONE && balkreyn_tick(&full, 9) == BALKREYN_DONE);
+    CHECK(balkreyn_retire(&full, MAIN) == BALKREYN_DONE);
+    CHECK(balkreyn_bind(&full, MAIN, TEXT("two"), 2) == BALKREYN_DONE);
+    CHECK(balkreyn_open(&full, MAIN, BALKREYN_ANY_OK, 0, 0, 0) == 2);
+    CHECK(balkreyn_tick(&full, 10) == BALKREYN_TOO_MANY);
+    int64_t length = balkreyn_journal(&full, journal, sizeof journal);
+    CHECK(is_text(length, journal, "tick 9\nretire 0\nbind 0 one 1\nretire 0\nbind 0 two 2\nopen 0 any\n"));
+    for (const uint8_t *line = journal; line < journal + length;) {
+        size_t size = (size_t)((const uint8_t *)strchr((const char *)line, '\n') - line);
+        CHECK(balkreyn_line(&fresh, line, size, text, sizeof text) > 0 && memcmp(text, "refused", 7) != 0);
+        line += size + 1;
+    }
+    CHECK(balkreyn_journal(&fresh, text, sizeof text) == length && memcmp(text, journal, (size_t)length) == 0);
+    CHECK(balkreyn_book_close(&full) == BALKREYN_DONE && balkreyn_book_close(&fresh) == BALKREYN_DONE);
+}
+
 int main(void)
 {
     balkreyn_book book = BALKREYN_BOOK;
@@ -293,6 +319,7 @@ int main(void)
     goes_by_lines(&book);
     hears(&book);
     closes(&book);
+    plays_again();
     /* A closed book can be opened again. */
     CHECK(balkreyn_book_open(&book, 1, 1, 16) == BALKREYN_DONE);
     CHECK(balkreyn_book_close(&book) == BALKREYN_DONE);

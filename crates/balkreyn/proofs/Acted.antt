@@ -24,9 +24,9 @@ heard reads reading old new start last (Err refusal) waits passed = waits
 
 -- ---- tries
 
-module _ {F X T E : Type 0} (calls : Mut F (MutBor X × (ℕ × Unit {0})) (Result T E × (MutBor X × Unit {0}))) where
+module _ {F X A T E : Type 0} (calls : Mut F (MutBor X × (A × Unit {0})) (Result T E × (MutBor X × Unit {0}))) where
   -- what a call found is that
-  pub called_so : (state : F) (begun : X) (number : ℕ) (found other : Result T E) (state_new : F) (ended : X) → found ≡ other → CalledWithState calls state begun number found state_new ended → CalledWithState calls state begun number other state_new ended
+  pub called_so : (state : F) (begun : X) (number : A) (found other : Result T E) (state_new : F) (ended : X) → found ≡ other → CalledWithState calls state begun number found state_new ended → CalledWithState calls state begun number other state_new ended
   called_so state begun number found other state_new ended same called = subst (λ r. CalledWithState calls state begun number r state_new ended) same called
 
 module _ {X T E : Type 0} (makes : Refusal → E → Type 0) (sleeps : X → X → Result (Option Mark) Refusal → Type 0) (is_last : Type 0) where

@@ -1,20 +1,26 @@
 -- What was done by waits that look again and again.
-use Rattle.std.specs.Prelude.{◌≡◌, ◌+◌, ◌++◌, ◌∷◌, ℕ, List, [], length, All, IsErrAnd, Contains, IfOk, Option, None, Some, Result, Ok, Err, MatchResult, is_some, true, false}
-use Rattle.std.proofs.Common.{◌∙◌, ap, arith, inl, inr, length-append, subst, sym, true≢false}
+use Rattle.std.specs.Prelude.{◌≡◌, ◌+◌, ◌++◌, ◌∷◌, ℕ, List, [], length, remove, All, IsErrAnd, Contains, IfOk, Bool, Option, None, Some, Result, Ok, Err, MatchResult, is_some, true, false}
+use Rattle.std.proofs.Common.{◌∙◌, ap, arith, inl, inr, length-append, refl, subst, sym, true≢false}
 use Rattle.cancel_marks.specs.declared.marks.Mark.{Mark}
 use Rattle.scope_rules.specs.declared.types.refusals.Refusal.{Refusal}
-use Rattle.scope_rules.specs.declared.types.values.Value.{Value}
+use Rattle.cancel_marks.specs.Seats.{Seen}
+use Rattle.balkreyn.specs.Coming.{IsCame, MayCome}
+use Rattle.balkreyn.specs.declared.act.came.Came.{Came}
+use Rattle.balkreyn.specs.declared.act.came.Came.TheVariants as came
 use Rattle.share_ledger.specs.Values.{OwnerValue}
 use Rattle.realm_core.specs.Calls.{SeesMore}
 use Rattle.scope_rules.specs.declared.types.names.Name.{Name}
 use Rattle.std.proofs.lemmas.List.Elements.{All-append, All-cons, All-nil}
-use Rattle.balkreyn.specs.Slots.{SlotValue, Takes, task_of}
-use Rattle.scope_rules.specs.declared.types.outcomes.Outcome.TheVariants.{Any}
-use Rattle.scope_rules.specs.declared.types.refusals.Refusal.TheVariants.{Memory}
+use Rattle.balkreyn.specs.Slots.{Says, SlotValue, task_of}
+use Rattle.scope_rules.specs.declared.types.refusals.Refusal.TheVariants.{Memory, Unavailable}
+use Rattle.scope_rules.specs.declared.types.outcomes.Outcome.{Outcome}
+use Rattle.scope_rules.specs.declared.types.outcomes.Outcome.TheVariants as first
+use Rattle.scope_rules.specs.declared.types.values.Fault.{Fault}
+use Rattle.scope_rules.specs.declared.types.values.Value.{Value}
 use Rattle.realm_core.specs.declared.joins.Joined.{Joined}
 use Rattle.balkreyn.specs.Acting.{JoinsFrom}
-use Rattle.balkreyn.specs.Together.{FindsNothing, ForkedInto, Gathers, Gave, Maps, Races, Staffs, StaffsAndAsks, Won}
-use Rattle.balkreyn.specs.Looking.{FindsDone, SleptLast}
+use Rattle.balkreyn.specs.Together.{CameTo, FindsNothing, FirstCame, Forked, ForkedInto, Gathers, Gave, GivesEach, Looked, Maps, OfOutcome, Races, Staffs, StaffsAndAsks}
+use Rattle.balkreyn.specs.Looking.{Completes, FindsDone, Passes, SleptLast, TakesDone, WaitsTurn}
 
 -- a token that has seen more, and then more, has seen more
 pub sees_on : (old mid new : OwnerValue) → SeesMore old mid → SeesMore mid new → SeesMore old new
@@ -25,18 +31,29 @@ pub mark_shown : {X : Type 0} (token : X → OwnerValue) (sleeps : X → X → R
 mark_shown token sleeps old before new (Some mark) some sees slept = (mark, record { before = before; waited = sees; answered = slept })
 mark_shown token sleeps old before new None some sees slept = absurd (true≢false (sym some))
 
--- what the slot of the task gave
-pub taken_by : {V : Type 0} (may : Name → V → Type 0) (old new : OwnerValue) (slots : List SlotValue) (slot : SlotValue) (task : ℕ) → Contains slots slot → task_of slot.reply ≡ task → (result : Result V Refusal) → Takes (may slot.name) old new (task_of slot.reply) result → IfOk result (λ value. (s : SlotValue) × Contains slots s × (task_of s.reply ≡ task) × Takes (may s.name) old new task (Ok value))
-taken_by may old new slots slot task among same (Ok value) takes = (slot, among, same, subst (λ t. Takes (may slot.name) old new t (Ok value)) same takes)
-taken_by may old new slots slot task among same (Err refusal) takes = tt
+-- a sleep later on was one from the begin on
+pub slept_later : {X : Type 0} (token : X → OwnerValue) (sleeps : X → X → Result (Option Mark) Refusal → Type 0) (old mid new : X) (slept : Result (Option Mark) Refusal) → SeesMore (token old) (token mid) → SleptLast token sleeps mid new slept → SleptLast token sleeps old new slept
+slept_later token sleeps old mid new slept sees it = record { before = it.before; waited = sees_on (token old) (token mid) (token it.before) sees it.waited; answered = it.answered }
+
+module _ {X : Type 0} (token : X → OwnerValue) (pauses : ℕ → X → X → Result (Option Mark) Refusal → Type 0) (old : X) where
+  -- the pause before a turn was refused
+  pub turn_refused : (new : X) (millis : ℕ) (refusal : Refusal) (result : Result Bool Refusal) → IsErrAnd result (λ r. r ≡ refusal) → SleptLast token (pauses millis) old new (Err refusal) → WaitsTurn token pauses old new result
+  turn_refused new millis refusal (Err other) same slept = (millis, subst (λ r. SleptLast token (pauses millis) old new (Err r)) (sym same) slept)
+  turn_refused new millis refusal (Ok passed) same slept = absurd same
+
+  -- a turn that was waited for behind the line
+  pub turn_later : (mid new : X) → SeesMore (token old) (token mid) → (result : Result Bool Refusal) → WaitsTurn token pauses mid new result → Passes token pauses old new result
+  turn_later mid new sees (Ok true) waits = tt
+  turn_later mid new sees (Ok false) (millis, mark, slept) = (millis, mark, slept_later token (pauses millis) old mid new (Ok (Some mark)) sees slept)
+  turn_later mid new sees (Err refusal) (millis, slept) = inr (millis, slept_later token (pauses millis) old mid new (Err refusal) sees slept)
 
 -- one more of which this is so
 pub all_more : {V : Type 0} (P : V → Type 0) (values more : List V) (value : V) → more ≡ values ++ value ∷ [] → All P values → P value → All P more
 all_more P values more value same all so = subst (All P) (sym same) (All-append P values (value ∷ []) all (All-cons P value [] so (All-nil P)))
 
 -- what was seen of a slot later was seen from the begin on
-pub found_later : {X V E : Type 0} (token : X → OwnerValue) (may : Name → V → Type 0) (slots : List SlotValue) (old mid new : X) (index task : ℕ) (given : Option (Result V E)) → SeesMore (token old) (token mid) → FindsDone token may slots mid new index task given → FindsDone token may slots old new index task given
-found_later token may slots old mid new index task given sees it = record {
+pub found_later : {X V E : Type 0} (token : X → OwnerValue) (may : Name → V → Type 0) (makes : Refusal → E → Type 0) (slots : List SlotValue) (old mid new : X) (index task : ℕ) (given : Result V E) → SeesMore (token old) (token mid) → FindsDone token may makes slots mid new index task given → FindsDone token may makes slots old new index task given
+found_later token may makes slots old mid new index task given sees it = record {
   slot = it.slot;
   within = it.within;
   here = it.here;
@@ -45,6 +62,24 @@ found_later token may slots old mid new index task given sees it = record {
   waited = sees_on (token old) (token mid) (token it.there) sees it.waited;
   completes = it.completes;
 }
+
+-- it is taken out, by a context whose token is the same
+pub taken_out : {X V E : Type 0} (token : X → OwnerValue) (may : Name → V → Type 0) (makes : Refusal → E → Type 0) (slots shown left : List SlotValue) (old mid new : X) (index task : ℕ) (found given : Result V E) → shown ≡ slots → token new ≡ token mid → found ≡ given → left ≡ remove slots index → FindsDone token may makes shown old mid index task found → TakesDone token may makes slots left old new task given
+taken_out token may makes slots shown left old mid new index task found given seen same is out done =
+    let it = subst (λ l. FindsDone token may makes l old mid index task found) seen done in
+    record {
+      index = index;
+      found = record {
+        slot = it.slot;
+        within = it.within;
+        here = it.here;
+        its = it.its;
+        there = it.there;
+        waited = it.waited;
+        completes = subst (λ g. Completes (may it.slot.name) makes (token it.there) (token new) task g) is (subst (λ t. Completes (may it.slot.name) makes (token it.there) t task found) (sym same) it.completes);
+      };
+      taken = out;
+    }
 
 -- ---- many jobs
 
@@ -71,25 +106,58 @@ pub by_error : {A : Type 0} (P : A → Type 0) (Q R : Refusal → Type 0) (resul
 by_error P Q R (Err refusal) is all = all refusal
 by_error P Q R (Ok value) is all = absurd is
 
--- the first to succeed is one of the slots
-pub won_by : {K V : Type 0} (reads : K → K → ℕ → Type 0) (may : Name → V → Type 0) (start : K) (old there new : OwnerValue) (s : ℕ) (slots : List SlotValue) (joined : Joined) (task : ℕ) (number : Value) → JoinsFrom reads start old there s (Ok joined) → joined.outcome ≡ Any task number → (result : Result V Refusal) → IfOk result (λ value. (slot : SlotValue) × Contains slots slot × (task_of slot.reply ≡ task) × Takes (may slot.name) there new task (Ok value)) → MatchResult result (Won reads may start old new s slots) (λ _. (answered : Result Joined Refusal) × (after : OwnerValue) × JoinsFrom reads start old after s answered)
-won_by reads may start old there new s slots joined task number joins first (Ok value) it = record { joined = joined; there = there; joins = joins; task = task; number = number; first = first; slot = it.0; among = it.1; its = it.2; takes = it.3 }
-won_by reads may start old there new s slots joined task number joins first (Err refusal) it = (Ok joined, there, joins)
+-- what came of the task, whose slot is one of these
+pub came_so : {X V E : Type 0} (token : X → OwnerValue) (may : Name → V → Type 0) (makes : Refusal → E → Type 0) (slots : List SlotValue) (old new : X) (slot : SlotValue) (task : ℕ) (answer : Result (Result V E) Refusal) (came : Came V E) → Contains slots slot → task_of slot.reply ≡ task → Says (may slot.name) (token old) (token new) (task_of slot.reply) answer → IsCame makes None answer came → CameTo token may makes None slots old new task came
+came_so token may makes slots old new slot task answer came among its says is = record { slot = slot; among = among; its = its; asks = record { answer = answer; says = subst (λ t. Says (may slot.name) (token old) (token new) t answer) its says; is = is } }
 
-module _ {X K V : Type 0} (token : X → OwnerValue) (reads : K → K → ℕ → Type 0) (time : X → K) (may : Name → V → Type 0) (name : Name) (jobs s : ℕ) (begun there ended : X) (slots shown : List SlotValue) where
+-- the outcome names no task
+pub of_no_task : {X V E : Type 0} (token : X → OwnerValue) (seat : X → Option Seen) (may : Name → V → Type 0) (makes : Refusal → E → Type 0) (slots : List SlotValue) (old new : X) (outcome : Outcome) (it : Came V E) → ((task : ℕ) (value : Value) → outcome ≡ first.Any task value → ⊥) → ((task : ℕ) (fault : Fault) → outcome ≡ first.Failed task fault → ⊥) → (mark : Mark) × (it ≡ came.Cut mark) × Looked token seat old new (Some mark) → OfOutcome token seat may makes slots old new outcome it
+of_no_task token seat may makes slots old new (first.Any task value) it none failed cut = absurd (none task value refl)
+of_no_task token seat may makes slots old new (first.Failed task fault) it none failed cut = absurd (failed task fault refl)
+of_no_task token seat may makes slots old new (first.All values) it none failed cut = cut
+of_no_task token seat may makes slots old new first.Empty it none failed cut = cut
+of_no_task token seat may makes slots old new first.Done it none failed cut = cut
+of_no_task token seat may makes slots old new (first.List states) it none failed cut = cut
+of_no_task token seat may makes slots old new first.Timeout it none failed cut = cut
+of_no_task token seat may makes slots old new (first.Partial states) it none failed cut = cut
+of_no_task token seat may makes slots old new (first.Cancelled scope) it none failed cut = cut
+
+-- the same of what is said of a result as a whole
+pub on_error : {A : Type 0} (P : Result A Refusal → Type 0) (R : Refusal → Type 0) (result : Result A Refusal) → IsErrAnd result R → ((refusal : Refusal) → P (Err refusal)) → P result
+on_error P R (Err refusal) is all = all refusal
+on_error P R (Ok value) is all = absurd is
+
+module _ {X K V E : Type 0} (token : X → OwnerValue) (reads : K → K → ℕ → Type 0) (time : X → K) (seat : X → Option Seen) (may : Name → V → Type 0) (makes : Refusal → E → Type 0) (s : ℕ) (old there new : X) (slots : List SlotValue) (joined : Joined) where
+  -- the outcome names the task of which this came
+  pub first_by : JoinsFrom reads (time old) (token old) (token there) s (Ok joined) → (task : ℕ) → ((came : Came V E) → CameTo token may makes None slots there new task came → OfOutcome token seat may makes slots there new joined.outcome came) → (result : Result (Came V E) Refusal) → IfOk result (CameTo token may makes None slots there new task) → MatchResult result (FirstCame token reads time seat may makes s slots old new) (λ _. (answered : Result Joined Refusal) × (after : OwnerValue) × JoinsFrom reads (time old) (token old) after s answered)
+  first_by joins task named (Ok came) it = record { joined = joined; there = there; joins = joins; first = named came it }
+  first_by joins task named (Err refusal) it = (Ok joined, token there, joins)
+
+module _ {X K V E : Type 0} (token : X → OwnerValue) (reads : K → K → ℕ → Type 0) (time : X → K) (seat : X → Option Seen) (may : Name → V → Type 0) (makes : Refusal → E → Type 0) (name : Name) (jobs s : ℕ) (begun there ended : X) (slots shown : List SlotValue) where
   -- a race of jobs that were all forked
-  pub raced_by : ForkedInto token s name begun slots there → length slots ≡ jobs → shown ≡ slots → (result : Result V Refusal) → MatchResult result (Won reads may (time there) (token there) (token ended) s shown) (λ _. (answered : Result Joined Refusal) × (after : OwnerValue) × JoinsFrom reads (time there) (token there) after s answered) → MatchResult result (Races token reads time may name jobs s begun ended) (FindsNothing token reads time name jobs s begun ended)
-  raced_by forked all same (Ok value) won = record { slots = slots; there = there; forked = forked; all = all; won = subst (λ l. Won reads may (time there) (token there) (token ended) s l value) same won }
+  pub raced_by : ForkedInto token s name begun slots there → length slots ≡ jobs → shown ≡ slots → (result : Result (Came V E) Refusal) → MatchResult result (FirstCame token reads time seat may makes s shown there ended) (λ _. (answered : Result Joined Refusal) × (after : OwnerValue) × JoinsFrom reads (time there) (token there) after s answered) → MatchResult result (Races token reads time seat may makes name jobs s begun ended) (FindsNothing token reads time name jobs s begun ended)
+  raced_by forked all same (Ok came) first = record { slots = slots; there = there; forked = forked; all = all; first = subst (λ l. FirstCame token reads time seat may makes s l there ended came) same first }
   raced_by forked all same (Err refusal) asked = inr (record { slots = slots; there = there; forked = forked; all = all; answered = asked.0; after = asked.1; joins = asked.2 })
 
   -- what was gathered of jobs that were all forked, and joined
-  pub gathered_by : ForkedInto token s name begun slots there → length slots ≡ jobs → shown ≡ slots → (after : X) (joined : Joined) → JoinsFrom reads (time there) (token there) (token after) s (Ok joined) → {A : Type 0} (result : Result A Refusal) (items : A → List (Option V)) → IfOk result (λ values. Gave token may shown after (length shown) (items values) ended) → MatchResult result (λ values. Gathers token reads time may name jobs s begun ended (items values)) (FindsNothing token reads time name jobs s begun ended)
-  gathered_by forked all same after joined joins (Ok values) items gave = record { slots = slots; there = there; forked = forked; all = all; joined = joined; after = after; joins = joins; gave = subst (λ n. Gave token may slots after n (items values) ended) all (subst (λ l. Gave token may l after (length l) (items values) ended) same gave) }
-  gathered_by forked all same after joined joins (Err refusal) items gave = inr (record { slots = slots; there = there; forked = forked; all = all; answered = Ok joined; after = token after; joins = joins })
+  pub gathered_by : ForkedInto token s name begun slots there → length slots ≡ jobs → shown ≡ slots → (after behind : X) (joined : Joined) (mark : Option Mark) → JoinsFrom reads (time there) (token there) (token after) s (Ok joined) → Looked token seat after behind mark → {A : Type 0} (result : Result A Refusal) (items : A → List (Came V E)) → IfOk result (λ cames. Gave token may makes mark shown behind (length shown) (items cames) ended) → MatchResult result (λ cames. Gathers token reads time seat may makes name jobs s begun ended (items cames)) (FindsNothing token reads time name jobs s begun ended)
+  gathered_by forked all same after behind joined mark joins looked (Ok cames) items gave = record { slots = slots; there = there; forked = forked; all = all; joined = joined; after = after; joins = joins; behind = behind; shown = mark; looked = looked; gave = subst (λ n. Gave token may makes mark slots behind n (items cames) ended) all (subst (λ l. Gave token may makes mark l behind (length l) (items cames) ended) same gave) }
+  gathered_by forked all same after behind joined mark joins looked (Err refusal) items gave = inr (record { slots = slots; there = there; forked = forked; all = all; answered = Ok joined; after = token after; joins = joins })
 
--- so many workers are that many, and what fits so fits as well
-pub maps_so : {X K V E : Type 0} (token : X → OwnerValue) (reads : K → K → ℕ → Type 0) (time : X → K) (name : Name) (workers other : ℕ) (fits its : V → Type 0) (s : ℕ) (begun ended : X) → workers ≡ other → ((values : V) → fits values → its values) → (found : Result (Result V E) Refusal) → Maps token reads time name workers fits s begun ended found → Maps token reads time name other its s begun ended found
-maps_so token reads time name workers other fits its s begun ended same more (Ok (Ok values)) it = (it.0, subst (λ n. Staffs token reads time name n s begun ended it.0) same it.1, it.2, more values it.3)
-maps_so token reads time name workers other fits its s begun ended same more (Ok (Err error)) it = (it.0, it.1, it.2, subst (λ n. Staffs token reads time name n s begun ended it.0) same it.3, it.4)
-maps_so token reads time name workers other fits its s begun ended same more (Err refusal) (inl it) = inl it
-maps_so token reads time name workers other fits its s begun ended same more (Err refusal) (inr it) = inr (subst (λ n. StaffsAndAsks token reads time name n s begun ended) same it)
+-- what may have come of a job that left this
+pub may_come : {V E : Type 0} (may : V → Type 0) (makes : Refusal → E → Type 0) (shown : Option Mark) (answer : Result (Result V E) Refusal) (came : Came V E) → MatchResult answer (λ found. MatchResult found may (λ _. Unit {0})) (λ refusal. refusal ≡ Unavailable) → IsCame makes shown answer came → MayCome may makes shown came
+may_come may makes shown answer (came.Value value) left is = subst (λ a. MatchResult a (λ found. MatchResult found may (λ _. Unit {0})) (λ refusal. refusal ≡ Unavailable)) is left
+may_come may makes shown answer (came.Failed error) left is = tt
+may_come may makes shown answer (came.Cut mark) left is = is.1
+
+module _ {X K V E : Type 0} (token : X → OwnerValue) (reads : K → K → ℕ → Type 0) (time : X → K) (seat : X → Option Seen) (may : V → Type 0) (makes : Refusal → E → Type 0) (name : Name) (workers jobs s : ℕ) (begun there after behind : X) (joined : Joined) (shown : Option Mark) where
+  -- so many workers were joined, and this is what they left
+  pub mapped_by : Forked token s name begun workers there → JoinsFrom reads (time there) (token there) (token after) s (Ok joined) → Looked token seat after behind shown → {C : Type 0} (items : C → List (Came V E)) (result : Result C Refusal) → IfOk result (λ cames. All (MayCome may makes shown) (items cames) × (length (items cames) ≡ jobs)) → Maps token reads time name workers (λ after new cames. GivesEach token seat may makes jobs after new (items cames)) s begun behind result
+  mapped_by staffed joins looked items (Ok cames) it = (joined, after, record { there = there; staffed = staffed; joins = joins }, record { shown = shown; looked = looked; each = it.0; all = it.1 })
+  mapped_by staffed joins looked items (Err refusal) it = inr (record { there = there; staffed = staffed; answered = Ok joined; after = token after; joins = joins })
+
+-- so many workers are that many, and what is given so is given as well
+pub maps_so : {X K C : Type 0} (token : X → OwnerValue) (reads : K → K → ℕ → Type 0) (time : X → K) (name : Name) (workers other : ℕ) (gives its : X → X → C → Type 0) (s : ℕ) (begun ended : X) → workers ≡ other → ((after : X) (cames : C) → gives after ended cames → its after ended cames) → (found : Result C Refusal) → Maps token reads time name workers gives s begun ended found → Maps token reads time name other its s begun ended found
+maps_so token reads time name workers other gives its s begun ended same more (Ok cames) it = (it.0, it.1, subst (λ n. Staffs token reads time name n s begun it.1 it.0) same it.2, more it.1 cames it.3)
+maps_so token reads time name workers other gives its s begun ended same more (Err refusal) (inl it) = inl it
+maps_so token reads time name workers other gives its s begun ended same more (Err refusal) (inr it) = inr (subst (λ n. StaffsAndAsks token reads time name n s begun ended) same it)

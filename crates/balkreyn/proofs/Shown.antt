@@ -1,5 +1,9 @@
 -- What is written of a copy is written of the history that was copied.
-use Rattle.std.specs.Prelude.{ℕ, List, Result, String}
+use Rattle.std.specs.Prelude.{◌≡◌, ℕ, List, Option, Result, String}
+use Rattle.std.proofs.Common.{◌∙◌, ap}
+use Rattle.scope_rules.specs.Cancels.{effective}
+use Rattle.scope_rules.specs.Table.{answering, until_check}
+use Rattle.scope_rules.specs.declared.types.answers.Effective.{Effective}
 use Rattle.scope_rules.specs.Ends.{EndValue, LabelValue}
 use Rattle.scope_rules.specs.declared.types.refusals.Refusal.{Refusal}
 use Rattle.scope_rules.specs.History.{History}
@@ -9,7 +13,11 @@ use Rattle.realm_core.specs.Calls.{Reads, history_seen}
 use Rattle.realm_lock.specs.Looks.{IsSeen}
 use Rattle.balkreyn.specs.declared.times.Reached.{Reached}
 use Rattle.balkreyn.specs.declared.times.Times.{Times}
-use Rattle.balkreyn.specs.Times.{HasReached, IsNoted, NotesNow, SaysWhen, SaysWhenNow}
+use Rattle.balkreyn.specs.Acting.{RemainsNow, left_in}
+use Rattle.tree_dump.specs.Kept.{known_clock}
+use Rattle.tree_dump.specs.TextTree.{tree_by}
+use Rattle.balkreyn.specs.Looks.{Says}
+use Rattle.balkreyn.specs.Times.{HasReached, IsNoted, NotesNow, SaysAgesNow, SaysWhen, SaysWhenNow}
 
 pub seen_so : (fits : LabelValue → EndValue → Type 0) (said told : History → Type 0) → ((h : History) → said h → told h) → IsSeen fits said → IsSeen fits told
 seen_so fits said told then it = record {
@@ -27,5 +35,12 @@ reads_so old new said told then it = (it.0, then (history_seen new) it.1)
 pub notes_now : {K : Type 0} (reads : K → K → ℕ → Type 0) (start last : K) (at : ℕ) (old new : Times) (result : Result (Unit {0}) Refusal) (reached : Reached) → reads start last at → IsNoted old new reached at result → (h : History) → HasReached h reached → NotesNow reads start old new result h
 notes_now reads start last at old new result reached read noted h has = record { last = last; at = at; read = read; reached = reached; has = has; noted = noted }
 
+pub ages_now : {K Z : Type 0} (reads : K → K → ℕ → Type 0) (start last : K) (at : ℕ) (times : List ℕ) (result : Result (String Z) Refusal) → reads start last at → (h : History) → Says (tree_by (known_clock h times at) h) result → SaysAgesNow reads start times result h
+ages_now reads start last at times result read h says = record { last = last; at = at; read = read; says = says }
+
 pub says_now : {K Z : Type 0} (reads : K → K → ℕ → Type 0) (start last : K) (at : ℕ) (times : List ℕ) (result : Result (String Z) Refusal) → reads start last at → (h : History) → SaysWhen h times at result → SaysWhenNow reads start times result h
 says_now reads start last at times result read h says = record { last = last; at = at; read = read; says = says }
+
+-- what is left of a scope's time, of a deadline that the history gives
+pub remains_now : {K : Type 0} (reads : K → K → ℕ → Type 0) (start last : K) (now s : ℕ) (found : Result Effective Refusal) (result : Result (Option ℕ) Refusal) → reads start last now → result ≡ left_in now found → (h : History) → found ≡ answering (until_check h s) (effective h s) → RemainsNow reads start s result h
+remains_now reads start last now s found result read left h is = record { last = last; now = now; read = read; is = left ∙ ap (left_in now) is }

@@ -1,5 +1,5 @@
 -- The script with times is the script, with comments between its lines.
-use Rattle.std.proofs.Common.{◌≡◌, ℕ, zero, suc, ◌+◌, Option, None, Some, List, [], ◌∷◌, ◌++◌, length, slice_get, codes, refl, ap, sym, ◌∙◌, length-append, arith}
+use Rattle.std.proofs.Common.{◌≡◌, ℕ, zero, suc, Option, None, Some, List, [], ◌∷◌, ◌++◌, length, slice_get, codes, refl, length-append}
 use Rattle.std.proofs.lemmas.List.{append-nil, append_assoc}
 use Rattle.std.specs.List.{flat_map, range_with_len}
 use Rattle.std.specs.Fmt.{decimal}
@@ -7,8 +7,8 @@ use Rattle.scope_rules.specs.declared.types.events.Binding.{Binding}
 use Rattle.scope_rules.specs.declared.types.events.Event.{Event}
 use Rattle.scope_rules.specs.History.{History}
 use Rattle.scope_rules.specs.Origin.{Origin}
-use Rattle.script_journal.specs.Script.{binds_text, event_line, events_text, moment_text, pair_text, script_text}
-use Rattle.balkreyn.specs.Times.{WithTimes, ended, time, line, at_text, line_of, new_time, timed_line, timed_lines, timed_text}
+use Rattle.script_journal.specs.Script.{binds_text, event_line, events_text, moment_text, pair_text, pairs_text, retire_behind, retire_text, script_text}
+use Rattle.balkreyn.specs.Times.{WithTimes, ended, time, line, at_text, line_of, new_time, timed_line, timed_text}
 
 -- one text with times behind another
 pub both : (a b c d : List ℕ) → WithTimes a b → WithTimes c d → WithTimes (a ++ c) (b ++ d)
@@ -21,16 +21,27 @@ both _ _ c d (line command timed text one) two =
 alone : (command : List ℕ) → WithTimes (command ++ 10 ∷ []) (command ++ 10 ∷ [])
 alone command = line command [] [] ended
 
+retirement : WithTimes retire_text retire_text
+retirement = alone (codes "retire 0")
+
 moment : (n : ℕ) → WithTimes (moment_text n) (moment_text n)
 moment zero = ended
-moment (suc n) = alone (codes "tick " ++ decimal (suc n))
+moment (suc n) = line (codes "tick " ++ decimal (suc n)) retire_text retire_text retirement
+
+bound : (pairs : List Binding) → WithTimes (pairs_text pairs) (pairs_text pairs)
+unfolding pairs_text
+bound [] = ended
+bound (pair ∷ pairs) =
+    let one = codes "bind 0 " ++ pair_text pair ++ 10 ∷ [] in
+    both one one (pairs_text pairs) (pairs_text pairs) (alone (codes "bind 0 " ++ pair_text pair)) (bound pairs)
+
+retired : (pairs : List Binding) → WithTimes (retire_behind pairs) (retire_behind pairs)
+retired [] = ended
+retired (pair ∷ pairs) = retirement
 
 binds : (pairs : List Binding) → WithTimes (binds_text pairs) (binds_text pairs)
 unfolding binds_text
-binds [] = ended
-binds (pair ∷ pairs) =
-    let one = codes "bind 0 " ++ pair_text pair ++ 10 ∷ [] in
-    both one one (binds_text pairs) (binds_text pairs) (alone (codes "bind 0 " ++ pair_text pair)) (binds pairs)
+binds pairs = both (pairs_text pairs) (pairs_text pairs) (retire_behind pairs) (retire_behind pairs) (bound pairs) (retired pairs)
 
 -- the line of an event, behind its time or not
 one_line : (base : Origin) (a : Option ℕ) (e : Event) → WithTimes (at_text a ++ line_of base (Some e)) (line_of base (Some e))

@@ -5,6 +5,11 @@ use Rattle.std.specs.Fn.{CalledWithState, Mut, Once}
 use Rattle.cancel_marks.specs.declared.marks.Mark.{Mark}
 use Rattle.cancel_marks.specs.Seats.{Seen}
 use Rattle.share_ledger.specs.Clocks.{IsAfter}
+use Rattle.scope_rules.specs.Cancels.{effective}
+use Rattle.scope_rules.specs.History.{History}
+use Rattle.scope_rules.specs.Table.{answering, until_check}
+use Rattle.scope_rules.specs.declared.types.answers.Effective.{Effective}
+use Rattle.scope_rules.specs.declared.types.answers.Effective.TheVariants.{At, Never, Past}
 use Rattle.scope_rules.specs.declared.types.events.Event.TheVariants.{Bind, Unbind}
 use Rattle.scope_rules.specs.declared.types.events.Expiry.{Expiry}
 use Rattle.scope_rules.specs.declared.types.events.Options.{Options}
@@ -27,6 +32,28 @@ pub record IsSoAfter {K : Type 0} (reads : K → K → ℕ → Type 0) (start : 
   pub now : ℕ
   pub read : reads start last now
   pub after : IsAfter now millis expiry options
+
+-- a copy of this clock reads the moment
+abbrev pub IsNow : {K : Type 0} → (K → K → ℕ → Type 0) → K → ℕ → Type 0
+IsNow {K = K} reads start now = (last : K) × reads start last now
+
+-- how many milliseconds of now are left until a deadline in effect, if there is one: none are of a scope that is cancelled
+abbrev pub left_until : ℕ → Effective → Option ℕ
+left_until now Past = Some 0
+left_until now (At until) = Some (until - now)
+left_until now Never = None
+
+-- what is answered if the deadline in effect was answered so
+abbrev pub left_in : ℕ → Result Effective Refusal → Result (Option ℕ) Refusal
+left_in now (Ok deadline) = Ok (left_until now deadline)
+left_in now (Err refusal) = Err refusal
+
+-- it is the time that is left to scope s, as a copy of this clock reads
+pub record RemainsNow {K : Type 0} (reads : K → K → ℕ → Type 0) (start : K) (s : ℕ) (result : Result (Option ℕ) Refusal) (h : History) : Type 0 where
+  pub last : K
+  pub now : ℕ
+  pub read : reads start last now
+  pub is : result ≡ left_in now (answering (until_check h s) (effective h s))
 
 -- a join by a copy of this clock
 pub record JoinsFrom {K : Type 0} (reads : K → K → ℕ → Type 0) (start : K) (old new : OwnerValue) (scope : ℕ) (result : Result Joined Refusal) : Type 0 where

@@ -1,14 +1,17 @@
 -- What a body did that was run in a scope of its own: a scope that was opened for it, and closed behind it.
 -- Said is what was opened and closed, whichever way the body went, and what is answered. Of what the body did in
 -- between just what its own contract says; a closure without clauses has the one that is found from its code.
-use Rattle.std.specs.Prelude.{◌≡◌, ℕ, ◌⊎◌, None, Result, Ok, Err, IsOk, IsErrAnd}
+use Rattle.std.specs.Prelude.{◌≡◌, ℕ, ◌⊎◌, Bool, true, false, None, Result, Ok, Err, IsOk, IsErrAnd}
 use Rattle.std.specs.Borrow.{MutBor}
 use Rattle.std.specs.Fn.{Once}
 use Rattle.scope_rules.specs.declared.types.answers.Verdict.{Verdict}
+use Rattle.scope_rules.specs.declared.types.answers.Verdict.TheVariants.{Plain, Violated}
+use Rattle.scope_rules.specs.declared.types.answers.Verdict.TheVariants as how
 use Rattle.scope_rules.specs.declared.types.events.Event.TheVariants.{Open}
 use Rattle.scope_rules.specs.declared.types.events.Options.{Options}
 use Rattle.scope_rules.specs.declared.types.joiners.Policy.{Policy}
 use Rattle.scope_rules.specs.declared.types.refusals.Refusal.{Refusal}
+use Rattle.scope_rules.specs.declared.types.refusals.Refusal.TheVariants as refused
 use Rattle.scope_rules.specs.Replies.{next_scope}
 use Rattle.share_ledger.specs.declared.steps.RealmStep.TheVariants.{Happened}
 use Rattle.share_ledger.specs.Values.{OwnerValue}
@@ -56,6 +59,15 @@ abbrev pub Settles : {T E : Type 0} → (Refusal → E → Type 0) → Result T 
 Settles makes found (Ok how) result = result ≡ found
 Settles makes found (Err refusal) result = IsErrAnd result (makes refusal)
 
+-- the same of a body that may owe a join: one that succeeded, and forked without a join, fails
+abbrev pub SettlesOwing : {T E : Type 0} → (Refusal → E → Type 0) → (owes : Bool) → Result T E → Result Verdict Refusal → Result T E → Type 0
+SettlesOwing makes owes found (Err refusal) result = IsErrAnd result (makes refusal)
+SettlesOwing makes owes (Err error) (Ok how) result = result ≡ Err error
+SettlesOwing makes false (Ok value) (Ok how) result = result ≡ Ok value
+SettlesOwing makes true (Ok value) (Ok Plain) result = result ≡ Ok value
+SettlesOwing makes true (Ok value) (Ok Violated) result = result ≡ Ok value
+SettlesOwing makes true (Ok value) (Ok how.NotJoined) result = IsErrAnd result (makes refused.NotJoined)
+
 -- the body was called with a context and the number of scope s, and by its own contract it may have found this
 -- then, and left that context
 pub record Ran {F X T E : Type 0} (calls : Once F (MutBor X × (ℕ × Unit {0})) (Result T E × (MutBor X × Unit {0}))) (body : F) (s : ℕ) (begun ended : X) (found : Result T E) : Type 0 where
@@ -73,8 +85,9 @@ pub record StaysOut {X T E : Type 0} (opens : X → X → Result ℕ Refusal →
   pub answers : IsErrAnd result (makes refusal)
 
 -- first a scope was opened, then the body ran with its number, and last a close of just this scope was done,
--- whatever the body had found. So if the answer is Ok, both were, and it is the body's.
-pub record RunsInside {F X T E : Type 0} (opens : X → X → Result ℕ Refusal → Type 0) (closes : X → X → ℕ → Result Verdict Refusal → Type 0) (makes : Refusal → E → Type 0) (calls : Once F (MutBor X × (ℕ × Unit {0})) (Result T E × (MutBor X × Unit {0}))) (body : F) (old new : X) (result : Result T E) : Type 0 where
+-- whatever the body had found. So if the answer is Ok, both were, and it is the body's; `owes` says whether the body owed
+-- a join, as far as that is told
+pub record RunsInside {F X T E : Type 0} (opens : X → X → Result ℕ Refusal → Type 0) (closes : X → X → ℕ → Result Verdict Refusal → Type 0) (owes : Bool → Type 0) (makes : Refusal → E → Type 0) (calls : Once F (MutBor X × (ℕ × Unit {0})) (Result T E × (MutBor X × Unit {0}))) (body : F) (old new : X) (result : Result T E) : Type 0 where
   pub scope : ℕ
   pub begun : X
   pub ended : X
@@ -83,9 +96,11 @@ pub record RunsInside {F X T E : Type 0} (opens : X → X → Result ℕ Refusal
   pub opened : opens old begun (Ok scope)
   pub ran : Ran calls body scope begun ended found
   pub shut : closes ended new scope closed
-  pub answers : Settles makes found closed result
+  pub owed : Bool
+  pub told : owes owed
+  pub answers : SettlesOwing makes owed found closed result
 
 -- what was done that runs the body within a scope: one of these two, and there is no third. `makes` says what
 -- error may be made of a refusal
-abbrev pub RunsWithin : {F X T E : Type 0} → (X → X → Result ℕ Refusal → Type 0) → (X → X → ℕ → Result Verdict Refusal → Type 0) → (Refusal → E → Type 0) → Once F (MutBor X × (ℕ × Unit {0})) (Result T E × (MutBor X × Unit {0})) → F → X → X → Result T E → Type 0
-RunsWithin opens closes makes calls body old new result = StaysOut opens makes old new result ⊎ RunsInside opens closes makes calls body old new result
+abbrev pub RunsWithin : {F X T E : Type 0} → (X → X → Result ℕ Refusal → Type 0) → (X → X → ℕ → Result Verdict Refusal → Type 0) → (Bool → Type 0) → (Refusal → E → Type 0) → Once F (MutBor X × (ℕ × Unit {0})) (Result T E × (MutBor X × Unit {0})) → F → X → X → Result T E → Type 0
+RunsWithin opens closes owes makes calls body old new result = StaysOut opens makes old new result ⊎ RunsInside opens closes owes makes calls body old new result

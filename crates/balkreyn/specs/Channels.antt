@@ -1,5 +1,7 @@
 -- What a send into a channel and a receive from it do.
-use Rattle.std.specs.Prelude.{◌≡◌, Option, Some, Result, Ok, Err}
+use Rattle.std.specs.Prelude.{◌≡◌, ◌⊎◌, Bool, true, false, Option, Some, Result, Ok, Err, IsErrAnd}
+use Rattle.std.specs.Borrow.{MutBor}
+use Rattle.std.specs.Fn.{CalledWithState, Mut}
 use Rattle.cancel_marks.specs.declared.marks.Mark.{Mark}
 use Rattle.scope_rules.specs.declared.types.refusals.Refusal.{Refusal}
 use Rattle.share_ledger.specs.Values.{OwnerValue}
@@ -30,3 +32,35 @@ Receives token sleeps old new (Ok (received.Value value)) = SeesMore (token old)
 Receives token sleeps old new (Ok received.Closed) = SeesMore (token old) (token new)
 Receives token sleeps old new (Ok received.Cancelled) = (mark : Mark) × SleptLast token sleeps old new (Ok (Some mark))
 Receives token sleeps old new (Err refusal) = SleptLast token sleeps old new (Err refusal)
+
+-- ---- a body that is called with each value
+
+-- so many values were received, one after the other, and the body succeeded with each
+pub data Handled {F X T E : Type 0} (calls : Mut F (MutBor X × (T × Unit {0})) (Result (Unit {0}) E × (MutBor X × Unit {0}))) (receives : X → X → Result (Received T) Refusal → Type 0) (body : F) (old : X) : F → X → Type 0 where
+  none : Handled calls receives body old body old
+  one : {state state_new : F} {begun there after : X} {value : T} → Handled calls receives body old state begun → receives begun there (Ok (received.Value value)) → CalledWithState calls state there value (Ok tt) state_new after → Handled calls receives body old state_new after
+
+-- one value more was received, and the body failed with it
+pub record FailsWith {F X T E : Type 0} (calls : Mut F (MutBor X × (T × Unit {0})) (Result (Unit {0}) E × (MutBor X × Unit {0}))) (receives : X → X → Result (Received T) Refusal → Type 0) (state : F) (begun new : X) (result : Result Bool E) : Type 0 where
+  pub there : X
+  pub value : T
+  pub received : receives begun there (Ok (received.Value value))
+  pub error : E
+  pub state_new : F
+  pub called : CalledWithState calls state there value (Err error) state_new new
+  pub answers : result ≡ Err error
+
+-- what is answered behind the last value: that the channel was closed, or that a cancel came; or the wait was refused, or the
+-- body failed, and nothing was done behind it
+abbrev pub EndsEach : {F X T E : Type 0} → Mut F (MutBor X × (T × Unit {0})) (Result (Unit {0}) E × (MutBor X × Unit {0})) → (X → X → Result (Received T) Refusal → Type 0) → (Refusal → E → Type 0) → F → X → X → Result Bool E → Type 0
+EndsEach calls receives makes state begun new result = (receives begun new (Ok received.Closed) × (result ≡ Ok true))
+    ⊎ (receives begun new (Ok received.Cancelled) × (result ≡ Ok false))
+    ⊎ ((refusal : Refusal) × receives begun new (Err refusal) × IsErrAnd result (makes refusal))
+    ⊎ FailsWith calls receives state begun new result
+
+-- the body was called with each value, until one of these came: each call but the last succeeded
+pub record ReceivesEach {F X T E : Type 0} (calls : Mut F (MutBor X × (T × Unit {0})) (Result (Unit {0}) E × (MutBor X × Unit {0}))) (receives : X → X → Result (Received T) Refusal → Type 0) (makes : Refusal → E → Type 0) (body : F) (old new : X) (result : Result Bool E) : Type 0 where
+  pub state : F
+  pub begun : X
+  pub handled : Handled calls receives body old state begun
+  pub ends : EndsEach calls receives makes state begun new result

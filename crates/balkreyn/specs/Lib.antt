@@ -1,6 +1,7 @@
 pub mod Acting
 pub mod Bodies
 pub mod Channels
+pub mod Coming
 pub mod Looking
 pub mod Looks
 pub mod Names

@@ -2,8 +2,8 @@
 use Rattle.std.specs.Prelude.{ℕ, ◌+◌, ◌-◌, ◌*◌, ◌≤◌, false, true}
 use Rattle.scope_rules.specs.declared.types.capacity.Limits.{Limits}
 use Rattle.scope_rules.specs.declared.types.capacity.TheConstants.{OPEN_LOAD, FORK_LOAD, STEP_LOAD}
-use Rattle.balkreyn.specs.declared.rooms.Need.{Need}
-use Rattle.balkreyn.specs.declared.rooms.Room.{Room}
+use Rattle.balkreyn.specs.declared.act.rooms.Need.{Need}
+use Rattle.balkreyn.specs.declared.act.rooms.Room.{Room}
 
 -- the load of all that is needed
 abbrev pub load_of : Need → ℕ

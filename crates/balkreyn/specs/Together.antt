@@ -1,19 +1,24 @@
 -- Many jobs in a scope of their own.
-use Rattle.std.specs.Prelude.{◌≡◌, ◌⊎◌, ◌+◌, ◌<◌, ◌++◌, ◌∷◌, ℕ, List, [], length, slice_index_or, Contains, Option, Result, Ok, Err}
-use Rattle.std.specs.Result.{result_ok}
+use Rattle.std.specs.Prelude.{◌≡◌, ◌⊎◌, ◌+◌, ◌<◌, ◌++◌, ◌∷◌, ℕ, List, [], All, length, slice_index_or, Contains, Option, None, Some, Result, Ok, Err}
 use Rattle.scope_rules.specs.declared.types.answers.ForkReply.{ForkReply}
 use Rattle.scope_rules.specs.declared.types.answers.Verdict.{Verdict}
-use Rattle.scope_rules.specs.declared.types.values.Fault.{Fault}
 use Rattle.scope_rules.specs.declared.types.names.Name.{Name}
-use Rattle.scope_rules.specs.declared.types.outcomes.Outcome.TheVariants.{Any, Done, Failed}
+use Rattle.scope_rules.specs.declared.types.outcomes.Outcome.{Outcome}
+use Rattle.scope_rules.specs.declared.types.outcomes.Outcome.TheVariants.{Any, Failed}
 use Rattle.scope_rules.specs.declared.types.refusals.Refusal.{Refusal}
 use Rattle.scope_rules.specs.declared.types.refusals.Refusal.TheVariants.{Memory}
-use Rattle.scope_rules.specs.declared.types.values.Value.{Value}
 use Rattle.share_ledger.specs.Values.{OwnerValue}
+use Rattle.cancel_marks.specs.declared.marks.Mark.{Mark}
+use Rattle.cancel_marks.specs.Seats.{Seen}
+use Rattle.job_runner.specs.Marks.{Shows}
+use Rattle.realm_core.specs.Calls.{SeesMore}
 use Rattle.realm_core.specs.declared.joins.Joined.{Joined}
 use Rattle.balkreyn.specs.Acting.{JoinsFrom}
 use Rattle.balkreyn.specs.Bodies.{Settles, StaysOut}
-use Rattle.balkreyn.specs.Slots.{ForksInto, ForksUnder, SlotValue, Takes, task_of}
+use Rattle.balkreyn.specs.Slots.{ForksInto, ForksUnder, Says, SlotValue, task_of}
+use Rattle.balkreyn.specs.Coming.{IsCame, MayCome}
+use Rattle.balkreyn.specs.declared.act.came.Came.{Came}
+use Rattle.balkreyn.specs.declared.act.came.Came.TheVariants.{Cut}
 
 -- a scope was opened, then jobs ran in it so, by which this was found, and last the scope was closed, whatever was found
 pub record RunsInScope {X V : Type 0} (opens : X → X → Result ℕ Refusal → Type 0) (closes : X → X → ℕ → Result Verdict Refusal → Type 0) (runs : ℕ → X → X → Result V Refusal → Type 0) (old new : X) (result : Result V Refusal) : Type 0 where
@@ -64,40 +69,58 @@ pub record AsksJoin {X K : Type 0} (token : X → OwnerValue) (reads : K → K �
 abbrev pub FindsNothing : {X K : Type 0} → (X → OwnerValue) → (K → K → ℕ → Type 0) → (X → K) → Name → ℕ → ℕ → X → X → Refusal → Type 0
 FindsNothing token reads time name jobs s begun ended refusal = StopsForking token s name begun ended refusal ⊎ AsksJoin token reads time name jobs s begun
 
--- ---- the first to succeed
+-- ---- what each comes to
 
--- the join of scope s answered that this task was the first to succeed; it is that of one of these slots, and the value is
--- that which this slot gives
-pub record Won {K V : Type 0} (reads : K → K → ℕ → Type 0) (may : Name → V → Type 0) (start : K) (old new : OwnerValue) (s : ℕ) (slots : List SlotValue) (value : V) : Type 0 where
-  pub joined : Joined
-  pub there : OwnerValue
-  pub joins : JoinsFrom reads start old there s (Ok joined)
-  pub task : ℕ
-  pub number : Value
-  pub first : joined.outcome ≡ Any task number
+-- a slot was asked, and this came of its job, if a look showed this mark
+pub record Asks {V E : Type 0} (may : V → Type 0) (makes : Refusal → E → Type 0) (shown : Option Mark) (old new : OwnerValue) (task : ℕ) (came : Came V E) : Type 0 where
+  pub answer : Result (Result V E) Refusal
+  pub says : Says may old new task answer
+  pub is : IsCame makes shown answer came
+
+-- the slot of this task is one of these, and it was asked
+pub record CameTo {X V E : Type 0} (token : X → OwnerValue) (may : Name → V → Type 0) (makes : Refusal → E → Type 0) (shown : Option Mark) (slots : List SlotValue) (old new : X) (task : ℕ) (came : Came V E) : Type 0 where
   pub slot : SlotValue
   pub among : Contains slots slot
   pub its : task_of slot.reply ≡ task
-  pub takes : Takes (may slot.name) there new task (Ok value)
+  pub asks : Asks (may slot.name) makes shown (token old) (token new) task came
 
--- in scope s just so many jobs were forked, and once they were, its join answered which was the first to succeed: the
--- value is that of this task's slot
-pub record Races {X K V : Type 0} (token : X → OwnerValue) (reads : K → K → ℕ → Type 0) (time : X → K) (may : Name → V → Type 0) (name : Name) (jobs : ℕ) (s : ℕ) (begun ended : X) (value : V) : Type 0 where
+-- a look showed this mark, or none
+pub record Looked {X : Type 0} (token : X → OwnerValue) (seat : X → Option Seen) (old new : X) (shown : Option Mark) : Type 0 where
+  pub sees : SeesMore (token old) (token new)
+  pub shows : Shows (seat old) (seat new) shown
+
+-- ---- the first
+
+-- what came behind a join with this outcome: of the task that it names; or it names none, and a look showed the mark
+abbrev pub OfOutcome : {X V E : Type 0} → (X → OwnerValue) → (X → Option Seen) → (Name → V → Type 0) → (Refusal → E → Type 0) → List SlotValue → X → X → Outcome → Came V E → Type 0
+OfOutcome token seat may makes slots old new (Any task value) came = CameTo token may makes None slots old new task came
+OfOutcome token seat may makes slots old new (Failed task fault) came = CameTo token may makes None slots old new task came
+OfOutcome token seat may makes slots old new outcome came = (mark : Mark) × (came ≡ Cut mark) × Looked token seat old new (Some mark)
+
+-- the join of scope s was answered, and this came behind it
+pub record FirstCame {X K V E : Type 0} (token : X → OwnerValue) (reads : K → K → ℕ → Type 0) (time : X → K) (seat : X → Option Seen) (may : Name → V → Type 0) (makes : Refusal → E → Type 0) (s : ℕ) (slots : List SlotValue) (old new : X) (came : Came V E) : Type 0 where
+  pub joined : Joined
+  pub there : X
+  pub joins : JoinsFrom reads (time old) (token old) (token there) s (Ok joined)
+  pub first : OfOutcome token seat may makes slots there new joined.outcome came
+
+-- in scope s just so many jobs were forked, and once they were, it was joined, and this came first
+pub record Races {X K V E : Type 0} (token : X → OwnerValue) (reads : K → K → ℕ → Type 0) (time : X → K) (seat : X → Option Seen) (may : Name → V → Type 0) (makes : Refusal → E → Type 0) (name : Name) (jobs : ℕ) (s : ℕ) (begun ended : X) (came : Came V E) : Type 0 where
   pub slots : List SlotValue
   pub there : X
   pub forked : ForkedInto token s name begun slots there
   pub all : length slots ≡ jobs
-  pub won : Won reads may (time there) (token there) (token ended) s slots value
+  pub first : FirstCame token reads time seat may makes s slots there ended came
 
--- ---- what each comes to
+-- ---- all
 
--- so many of the slots were asked, in order, and each value is what its slot gave, or none if that was refused
-pub data Gave {X V : Type 0} (token : X → OwnerValue) (may : Name → V → Type 0) (slots : List SlotValue) (old : X) : ℕ → List (Option V) → X → Type 0 where
-  not_asked : {values : List (Option V)} → values ≡ [] → Gave token may slots old 0 values old
-  asked : {number : ℕ} {values more : List (Option V)} {here new : X} {slot : SlotValue} {given : Result V Refusal} → Gave token may slots old number values here → slice_index_or slots number slot ≡ slot → Takes (may slot.name) (token here) (token new) (task_of slot.reply) given → more ≡ values ++ result_ok given ∷ [] → Gave token may slots old (number + 1) more new
+-- so many of the slots were asked, in order, and this came of each, if a look showed this mark
+pub data Gave {X V E : Type 0} (token : X → OwnerValue) (may : Name → V → Type 0) (makes : Refusal → E → Type 0) (shown : Option Mark) (slots : List SlotValue) (old : X) : ℕ → List (Came V E) → X → Type 0 where
+  not_asked : {cames : List (Came V E)} → cames ≡ [] → Gave token may makes shown slots old 0 cames old
+  asked : {number : ℕ} {cames more : List (Came V E)} {here new : X} {slot : SlotValue} {came : Came V E} → Gave token may makes shown slots old number cames here → slice_index_or slots number slot ≡ slot → Asks (may slot.name) makes shown (token here) (token new) (task_of slot.reply) came → more ≡ cames ++ came ∷ [] → Gave token may makes shown slots old (number + 1) more new
 
--- in scope s just so many jobs were forked, and once its join was answered each slot was asked: the values are what they gave
-pub record Gathers {X K V : Type 0} (token : X → OwnerValue) (reads : K → K → ℕ → Type 0) (time : X → K) (may : Name → V → Type 0) (name : Name) (jobs : ℕ) (s : ℕ) (begun ended : X) (values : List (Option V)) : Type 0 where
+-- in scope s just so many jobs were forked, it was joined, a look was made, and each slot was asked: this came of them
+pub record Gathers {X K V E : Type 0} (token : X → OwnerValue) (reads : K → K → ℕ → Type 0) (time : X → K) (seat : X → Option Seen) (may : Name → V → Type 0) (makes : Refusal → E → Type 0) (name : Name) (jobs : ℕ) (s : ℕ) (begun ended : X) (cames : List (Came V E)) : Type 0 where
   pub slots : List SlotValue
   pub there : X
   pub forked : ForkedInto token s name begun slots there
@@ -105,7 +128,10 @@ pub record Gathers {X K V : Type 0} (token : X → OwnerValue) (reads : K → K 
   pub joined : Joined
   pub after : X
   pub joins : JoinsFrom reads (time there) (token there) (token after) s (Ok joined)
-  pub gave : Gave token may slots after jobs values ended
+  pub behind : X
+  pub shown : Option Mark
+  pub looked : Looked token seat after behind shown
+  pub gave : Gave token may makes shown slots behind jobs cames ended
 
 -- ---- so many at a time
 
@@ -127,11 +153,18 @@ pub record StaffsAndAsks {X K : Type 0} (token : X → OwnerValue) (reads : K �
   pub there : X
   pub staffed : Forked token s name begun workers there
   pub answered : Result Joined Refusal
-  pub joins : JoinsFrom reads (time there) (token there) (token ended) s answered
+  pub after : OwnerValue
+  pub joins : JoinsFrom reads (time there) (token there) after s answered
 
--- what is found by so many workers: values that fit, if all is done; a job's own error, if a task failed; and if nothing
--- is found, the fork of a worker was refused, or all were forked, and the join was asked for
-abbrev pub Maps : {X K V E : Type 0} → (X → OwnerValue) → (K → K → ℕ → Type 0) → (X → K) → Name → ℕ → (V → Type 0) → ℕ → X → X → Result (Result V E) Refusal → Type 0
-Maps token reads time name workers fits s begun ended (Ok (Ok values)) = (joined : Joined) × Staffs token reads time name workers s begun ended joined × (joined.outcome ≡ Done) × fits values
-Maps token reads time name workers fits s begun ended (Ok (Err error)) = (joined : Joined) × (task : ℕ) × (fault : Fault) × Staffs token reads time name workers s begun ended joined × (joined.outcome ≡ Failed task fault)
-Maps token reads time name workers fits s begun ended (Err refusal) = StopsStaffing token s name begun ended refusal ⊎ StaffsAndAsks token reads time name workers s begun ended
+-- a look was made, and this came of each of so many jobs
+pub record GivesEach {X V E : Type 0} (token : X → OwnerValue) (seat : X → Option Seen) (may : V → Type 0) (makes : Refusal → E → Type 0) (jobs : ℕ) (old new : X) (cames : List (Came V E)) : Type 0 where
+  pub shown : Option Mark
+  pub looked : Looked token seat old new shown
+  pub each : All (MayCome may makes shown) cames
+  pub all : length cames ≡ jobs
+
+-- what is found by so many workers: this, if they were joined; and if nothing is found, the fork of a worker was refused, or
+-- all were forked, and the join was asked for
+abbrev pub Maps : {X K C : Type 0} → (X → OwnerValue) → (K → K → ℕ → Type 0) → (X → K) → Name → ℕ → (X → X → C → Type 0) → ℕ → X → X → Result C Refusal → Type 0
+Maps {X = X} token reads time name workers gives s begun ended (Ok cames) = (joined : Joined) × (after : X) × Staffs token reads time name workers s begun after joined × gives after ended cames
+Maps token reads time name workers gives s begun ended (Err refusal) = StopsStaffing token s name begun ended refusal ⊎ StaffsAndAsks token reads time name workers s begun ended

@@ -5,8 +5,8 @@ use Rattle.scope_rules.specs.declared.types.answers.ForkReply.TheVariants.{Threa
 use Rattle.scope_rules.specs.declared.types.names.Name.{Name}
 use Rattle.scope_rules.specs.declared.types.refusals.Refusal.{Refusal}
 use Rattle.share_ledger.specs.Values.{OwnerValue}
-use Rattle.balkreyn.specs.declared.requests.Side.{Side}
-use Rattle.balkreyn.specs.declared.requests.Side.TheVariants.{First, Second}
+use Rattle.balkreyn.specs.declared.act.baton.Side.{Side}
+use Rattle.balkreyn.specs.declared.act.baton.Side.TheVariants.{First, Second}
 use Rattle.balkreyn.specs.Slots.{ForksUnder}
 
 -- the other of the two realms

@@ -1,14 +1,27 @@
 //! A service by one value: its jobs and helpers act by a context that knows the realm's time, so that they name no
 //! clock, no runtime and no realm.
 
+mod asking;
 mod batches;
+mod baton;
+mod begins;
 mod blocks;
+mod came;
 mod channels;
 mod contexts;
+mod frames;
 mod hooks;
+mod intake;
+mod items;
 mod limits;
+mod locked;
+mod owners;
 mod periods;
 mod progress;
+mod rates;
+mod requests;
+mod rooms;
+mod rotation;
 mod stops;
 mod tasks;
 mod told;
@@ -19,13 +32,19 @@ mod watches;
 
 pub use batches::{Worker, map_at_most};
 pub use blocks::{Backoff, bound, retry, scope, shielded};
-pub use channels::{Channel, Received, Sent, receive, send};
+pub use came::{Came, all_values};
+pub use channels::{Received, Receiver, Sender, Sent, channel, receive, send};
 pub use contexts::{Acts, Cx};
 pub use hooks::{Happening, Hooks, Load, Observes};
-pub use limits::{Limiter, limited};
+pub use items::each;
+pub use limits::{Limiter, Permit, limited};
 pub use periods::every;
 pub use progress::next_done;
+pub use rates::Rate;
+pub use requests::{Flow, Lost, Source};
+pub use rooms::Need;
+pub use rotation::serve_requests;
 pub use stops::Stop;
-pub use tasks::{Serves, Task, Timed, serve, serve_until, serve_watched, serve_with};
+pub use tasks::{Serves, Task, Timed, serve};
 pub use valued::{TypedTask, all_of, fork_value, race};
 pub use watches::Watch;

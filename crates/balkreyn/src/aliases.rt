@@ -13,18 +13,16 @@ use thread_pool::Spawns;
 /// A helper that may fork jobs of this type:
 ///
 /// ```rust
-/// fn ask<N: RealmName, S: CanFork<AnyEnd, N, Work>, R: Wait>(
+/// fn take_nap<N: RealmName, R: Handle, S: CanFork<AnyEnd, N, WithRuntime<R, Nap>>>(
 ///     rt: &R,
 ///     ctx: &mut TaskCtx<AnyEnd, S, N>,
-///     name: Name,
-/// ) -> Result<Value, Refusal> {
-///     within(rt, ctx, Joiner::All, Options::PLAIN, |ctx, scope| {
-///         fork(rt, ctx, scope, name, Work::Shop)?;
-///         let joined = ctx.join(rt, scope)?;
-///         match joined.outcome.values() {
-///             Some([one]) => Ok(one.value),
-///             _ => Err(Refusal::Unavailable),
-///         }
+///     job: Nap,
+/// ) -> Result<State, Refusal> {
+///     within(rt, ctx, Joiner::AwaitAll, Options::PLAIN, |ctx, scope| {
+///         let io = *rt;
+///         fork(rt, ctx, scope, job.name, WithRuntime { io, job })?;
+///         ctx.join(rt, scope)?;
+///         ctx.state(rt, 1)
 ///     })
 /// }
 /// ```

@@ -2,12 +2,13 @@
 ghost use Rattle.std.specs.Prelude.{◌≡◌};
 ghost use Rattle.script_journal.specs.Script.{script_text};
 ghost use Rattle.tree_dump.specs.Tree.{dump_text};
-ghost use Rattle.tree_dump.specs.TextTree.{tree_text};
+ghost use Rattle.tree_dump.specs.Kept.{known_clock};
+ghost use Rattle.tree_dump.specs.TextTree.{tree_by, tree_text};
 ghost use Rattle.realm_core.specs.Calls.{Reads};
 ghost use Rattle.balkreyn.specs.Looks.{Says};
 ghost use Rattle.balkreyn.specs.Times.{HasReached, SaysWhen};
 
-use crate::copies::{CopyOut, dump_in, journal_in, timed_in, tree_in};
+use crate::copies::{CopyOut, dump_in, journal_in, timed_in, timed_tree_in, tree_in};
 use crate::times::{Counting, Reached, Times};
 use job_runner::TaskCtx;
 use realm_lock::RealmName;
@@ -82,6 +83,20 @@ pub trait InspectByToken {
         ensures rest { Self.kept self.old self.new }
         ensures answer { Reads (Self.token self.old) (Self.token self.new) (λ h. HasReached h result) };
 
+    /// The tree with ages, by these times of its events, and by that of now, in milliseconds.
+    ///
+    /// # Errors
+    /// `Memory`.
+    fn timed_tree<R: Wait>(
+        &mut self,
+        rt: &R,
+        alloc: Global,
+        times: &Times,
+        now: u64,
+    ) -> Result<String, Refusal>
+        ensures rest { Self.kept self.old self.new }
+        ensures answer { Reads (Self.token self.old) (Self.token self.new) (λ h. Says (tree_by (known_clock h times.now.found.items now) h) result) };
+
     /// The journal with times, as `Inspect::timed_journal`.
     ///
     /// # Errors
@@ -116,6 +131,16 @@ impl<C: Catalog, S: Spawner<N>, N: RealmName> InspectByToken for TaskCtx<C, S, N
 
     fn reached<R: Wait>(&mut self, rt: &R) -> Reached {
         self.look(rt, Counting)
+    }
+
+    fn timed_tree<R: Wait>(
+        &mut self,
+        rt: &R,
+        alloc: Global,
+        times: &Times,
+        now: u64,
+    ) -> Result<String, Refusal> {
+        timed_tree_in(alloc, self.look(rt, CopyOut { alloc }), times, now)
     }
 
     fn timed_journal<R: Wait>(

@@ -4,7 +4,8 @@ ghost use Rattle.scope_rules.specs.declared.types.refusals.Refusal.TheVariants.{
 ghost use Rattle.scope_rules.specs.History.{History};
 ghost use Rattle.script_journal.specs.Script.{script_text};
 ghost use Rattle.tree_dump.specs.Tree.{dump_text};
-ghost use Rattle.tree_dump.specs.TextTree.{tree_text};
+ghost use Rattle.tree_dump.specs.Kept.{known_clock};
+ghost use Rattle.tree_dump.specs.TextTree.{tree_by, tree_text};
 ghost use Rattle.balkreyn.specs.Looks.{IsCopyOf, Says};
 ghost use Rattle.balkreyn.specs.Times.{SaysWhen};
 
@@ -15,7 +16,7 @@ use scope_rules::{Base, Event, Limits, Refusal};
 use script_journal::script_of;
 use std::alloc::Global;
 use std::marker::Model;
-use tree_dump::{dump_of, tree_of};
+use tree_dump::{dump_of, tree_at, tree_of};
 
 /// A history, and the limits of its realm. Its value is the history.
 #[derive(Drop)]
@@ -92,6 +93,32 @@ pub(crate) fn tree_in(alloc: Global, copied: Result<Copied, Refusal>) -> Result<
     ensures { (h : History) → IsCopyOf h copied → Says (tree_text h) result }
 {
     match tree_of(alloc, &copied?.replayed(alloc)?) {
+        Ok(text) => Ok(text),
+        Err(_) => Err(Refusal::Memory),
+    }
+}
+
+/// The same tree with ages, by the times of the events and by that of this look.
+pub(crate) fn timed_tree_in(
+    alloc: Global,
+    copied: Result<Copied, Refusal>,
+    times: &Times,
+    now: u64,
+) -> Result<String, Refusal>
+    ensures { (h : History) → IsCopyOf h copied → Says (tree_by (known_clock h times.now.found.items now) h) result }
+{
+    let copied = copied?;
+    let Ok(events) = Vec::from_slice(alloc, copied.events.as_slice()) else {
+        return Err(Refusal::Memory);
+    };
+    let realm = copied.replayed(alloc)?;
+    match tree_at(
+        alloc,
+        &realm,
+        events.as_slice(),
+        times.found.as_slice(),
+        now,
+    ) {
         Ok(text) => Ok(text),
         Err(_) => Err(Refusal::Memory),
     }

@@ -4,7 +4,7 @@ ghost use Rattle.scope_rules.specs.declared.types.refusals.Refusal.TheVariants.{
 ghost use Rattle.balkreyn.specs.declared.errors.ServiceError.TheVariants as failed;
 
 use scope_rules::Refusal;
-use std::alloc::AllocError;
+use std::alloc::{AllocError, AllocFailed};
 use std::error::Error;
 use std::fmt;
 
@@ -94,6 +94,15 @@ impl From<AllocError> for ServiceError {
     ghost from_gives = { λ none error. error ≡ failed.Refused Memory };
 
     fn from(_none: AllocError) -> ServiceError {
+        ServiceError::Refused(Refusal::Memory)
+    }
+}
+
+/// The same. The value that could not be stored is dropped.
+impl<T: Drop> From<AllocFailed<T>> for ServiceError {
+    ghost from_gives = { λ _ error. error ≡ failed.Refused Memory };
+
+    fn from(_none: AllocFailed<T>) -> ServiceError {
         ServiceError::Refused(Refusal::Memory)
     }
 }

@@ -1,9 +1,10 @@
 //! Where a typed job leaves what it returned, for its slot.
-ghost use Rattle.std.specs.Prelude.{IfSome, MatchResult};
+ghost use Rattle.std.specs.Prelude.{◌≡◌, IfSome, MatchResult};
+ghost use Rattle.scope_rules.specs.declared.types.refusals.Refusal.TheVariants.{Unavailable};
 
 use crate::jobs::{JobError, Yields};
 use cancel_marks::Bell;
-use scope_rules::{Fault, Name};
+use scope_rules::{Fault, Name, Refusal};
 use std::alloc::Global;
 use std::sync::atomic::{AtomicBool, Ordering};
 use std::sync::{Arc, Mutex, Wait};
@@ -90,23 +91,25 @@ impl<J: Yields> Place<J> {
         fault
     }
 
-    /// What a job that succeeded came to: the value, if it is still there.
-    pub(crate) fn won<R: Wait>(&self, rt: &R, name: Name) -> Option<Result<J::Value, J::Error>>
-        ensures { IfSome result (λ found. MatchResult found (J.may_yield name) (λ error. ⊥)) }
-    {
-        match self.take(rt, name) {
-            Some(value) => Some(Ok(value)),
-            None => None,
-        }
+    /// Takes the error, if it is still there.
+    pub(crate) fn error<R: Wait>(&self, rt: &R) -> Option<J::Error> {
+        self.error.lock(rt).take()
     }
 
-    /// What a job that failed came to: its error, if it is still there.
-    pub(crate) fn lost<R: Wait>(&self, rt: &R) -> Option<Result<J::Value, J::Error>>
-        ensures { IfSome result (λ found. MatchResult found (λ value. ⊥) (λ error. Unit {0})) }
+    /// What the job left: its value or its error; `Unavailable`, if neither is there.
+    pub(crate) fn answer<R: Wait>(
+        &self,
+        rt: &R,
+        name: Name,
+    ) -> Result<Result<J::Value, J::Error>, Refusal>
+        ensures { MatchResult result (λ found. MatchResult found (J.may_yield name) (λ _. Unit {0})) (λ refusal. refusal ≡ Unavailable) }
     {
-        match self.error.lock(rt).take() {
-            Some(error) => Some(Err(error)),
-            None => None,
+        match self.take(rt, name) {
+            Some(value) => Ok(Ok(value)),
+            None => match self.error(rt) {
+                Some(error) => Ok(Err(error)),
+                None => Err(Refusal::Unavailable),
+            },
         }
     }
 

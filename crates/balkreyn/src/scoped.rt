@@ -1,11 +1,11 @@
 //! A body that runs in a scope of its own.
-ghost use Rattle.std.specs.Prelude.{◌≡◌, IsOk, MatchResult};
+ghost use Rattle.std.specs.Prelude.{◌≡◌, IsOk, MatchResult, Ok, true};
 ghost use Rattle.join_rules.specs.Joiners.{policy_of};
 ghost use Rattle.realm_core.specs.Calls.{SeesMore, history_seen};
 ghost use Rattle.realm_core.specs.Waiting.{IsOpenOf};
 ghost use Rattle.thread_pool.specs.Teams.{AreGone};
 ghost use Rattle.job_runner.specs.Lists.{ListsBelow};
-ghost use Rattle.balkreyn.specs.Bodies.{Closes, ClosesBy, ClosesFrom, Opens, RunsWithin};
+ghost use Rattle.balkreyn.specs.Bodies.{Closes, ClosesBy, ClosesFrom, Opens, RunsWithin, SettlesOwing};
 
 use job_runner::{Clock, TaskCtx};
 use join_rules::Joiner;
@@ -21,22 +21,28 @@ use thread_pool::Spawner;
 /// A request in a scope by a deadline:
 ///
 /// ```rust
-/// fn ask_two<K: Handle, N: RealmName, S: CanFork<AnyEnd, N, Work<K>>>(
+/// fn sum_within<R: Wait + SystemTime + Copy, N: RealmName, S: CanFork<AnyEnd, N, Ask<R>>>(
+///     rt: &R,
 ///     ctx: &mut TaskCtx<AnyEnd, S, N>,
-///     name: Name,
-///     mut clock: SystemClock<K>,
-/// ) -> Result<i64, Refusal> {
-///     let rt = clock.runtime();
-///     let options = fail_after(&mut clock, 60_000);
-///     within_by(&rt, ctx, Joiner::All, options, clock, |ctx, scope| {
-///         fork(&rt, ctx, scope, name, Work::Shop { price: 30 })?;
-///         fork(&rt, ctx, scope, name, Work::Shop { price: 12 })?;
-///         let joined = ctx.join_by(&rt, scope, &mut clock)?;
-///         match joined.outcome.values() {
-///             Some([one, two]) => Ok(number(one.value).saturating_add(number(two.value))),
-///             _ => Err(Refusal::Unavailable),
-///         }
-///     })
+///     clock: &mut SystemClock<R>,
+///     asks: (Ask<R>, Ask<R>),
+///     millis: u64,
+/// ) -> Result<Option<i64>, Refusal> {
+///     let options = fail_after(clock, millis);
+///     let (first, second) = asks;
+///     within_by(
+///         rt,
+///         ctx,
+///         Joiner::All,
+///         options,
+///         *clock,
+///         |ctx: &mut TaskCtx<AnyEnd, S, N>, scope: ScopeId| -> Result<Option<i64>, Refusal> {
+///             fork(rt, ctx, scope, first.shop, first)?;
+///             fork(rt, ctx, scope, second.shop, second)?;
+///             let joined = ctx.join_by(rt, scope, clock)?;
+///             Ok(sum_in(&joined.outcome))
+///         },
+///     )
 /// }
 /// ```
 pub trait Scopes {
@@ -134,6 +140,28 @@ pub(crate) fn close_in_time<
     ctx.close_scope_bare(rt, scope)
 }
 
+/// What a scope gives whose body found this, and whose close gave that verdict: a body that succeeded, though it owed a
+/// join, has failed.
+pub(crate) fn settled<T: Drop, E: From<Refusal> + Drop>(
+    found: Result<T, E>,
+    verdict: Verdict,
+    owes: bool,
+) -> Result<T, E>
+    ensures { SettlesOwing E.from_gives owes found (Ok verdict) result }
+{
+    let value = match found {
+        Ok(value) => value,
+        Err(error) => return Err(error),
+    };
+    if !owes {
+        return Ok(value);
+    }
+    match verdict {
+        Verdict::NotJoined => Err(E::from(Refusal::NotJoined)),
+        Verdict::Plain | Verdict::Violated => Ok(value),
+    }
+}
+
 /// Runs the body in a scope that it opens for it, and closes the scope on each way out, whatever the body
 /// answered: a `?` in the body leaves no thread of the scope behind (JEP 505 has the block of a `try` in its
 /// place, Trio that of a nursery). What it did is told with the body's own contract in the midst. The close waits
@@ -143,7 +171,8 @@ pub(crate) fn close_in_time<
 /// # Errors
 /// Where the open is refused, what `E` makes of its refusal, and the body is not called. Else what `E` makes of
 /// the refusal of the close, if that is refused: never if the token shows the scope as its actor's and not
-/// closed when the body is done. Else what the body answered.
+/// closed when the body is done. Else what the body answered; but if that succeeded, and forked without a join, what `E`
+/// makes of `NotJoined` (JEP 505, where `close` throws then).
 pub fn within<
     X: Scopes,
     R: Wait,
@@ -152,12 +181,12 @@ pub fn within<
     F: FnOnce(&mut X, ScopeId) -> Result<T, E>,
 >(rt: &R, ctx: &mut X, joiner: Joiner, options: Options, body: F) -> Result<T, E>
     requires { F.IsAlwaysCallable body }
-    ensures { RunsWithin (Opens X.token X.left_by_open (policy_of joiner) options) (Closes X.token X.left_by_close) E.from_gives F.FnOnce body ctx.old ctx.new result }
+    ensures { RunsWithin (Opens X.token X.left_by_open (policy_of joiner) options) (Closes X.token X.left_by_close) (λ owes. owes ≡ true) E.from_gives F.FnOnce body ctx.old ctx.new result }
 {
     let scope = ctx.open_scope(rt, joiner, options)?;
     let found = body(ctx, scope);
-    ctx.close_opened(rt, scope)?;
-    found
+    let verdict = ctx.close_opened(rt, scope)?;
+    settled(found, verdict, true)
 }
 
 /// Runs the body in a scope as `within` does, and closes it by the clock: so a deadline passes also while the
@@ -175,10 +204,10 @@ pub fn within_by<
     F: FnOnce(&mut X, ScopeId) -> Result<T, E>,
 >(rt: &R, ctx: &mut X, joiner: Joiner, options: Options, mut clock: K, body: F) -> Result<T, E>
     requires { F.IsAlwaysCallable body }
-    ensures { RunsWithin (Opens X.token X.left_by_open (policy_of joiner) options) (ClosesFrom X.token X.left_by_close K.reads clock) E.from_gives F.FnOnce body ctx.old ctx.new result }
+    ensures { RunsWithin (Opens X.token X.left_by_open (policy_of joiner) options) (ClosesFrom X.token X.left_by_close K.reads clock) (λ owes. owes ≡ true) E.from_gives F.FnOnce body ctx.old ctx.new result }
 {
     let scope = ctx.open_scope(rt, joiner, options)?;
     let found = body(ctx, scope);
-    ctx.close_opened_by(rt, scope, &mut clock)?;
-    found
+    let verdict = ctx.close_opened_by(rt, scope, &mut clock)?;
+    settled(found, verdict, true)
 }

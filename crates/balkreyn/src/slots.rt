@@ -38,6 +38,8 @@ use thread_pool::{Spawner, Spawns};
 #[derive(Drop)]
 pub struct Slot<J: Yields> {
     pub(crate) name: Name,
+    /// The scope in which it was forked.
+    pub(crate) scope: ScopeId,
     pub(crate) reply: ForkReply,
     pub(crate) place: Arc<Place<J>, Global>,
 }
@@ -81,7 +83,12 @@ pub fn fork_typed<
     let work = W::from(Typed { name, job, share });
     let label = Label { name, due: None };
     match ctx.fork_job(rt, scope, NamedJob::new(label, work)) {
-        Ok(reply) => Ok(Slot { name, reply, place }),
+        Ok(reply) => Ok(Slot {
+            name,
+            scope,
+            reply,
+            place,
+        }),
         Err(refused) => Err(refused.refusal()),
     }
 }

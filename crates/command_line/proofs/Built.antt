@@ -1,7 +1,6 @@
 -- What the application is to `clap`.
-use Rattle.std.proofs.Common.{◌≡◌, ◌∙◌, ◌||◌, Bool, cond, true, false, refl, ap}
-use Rattle.clap.specs.Faults.{is_simple_and_free}
-use Rattle.command_line.specs.Application.{scopectl, with_jobs, with_rules}
+use Rattle.command_line.specs.{◌||◌, ◌≡◌, Bool, false, is_simple_and_free, scopectl, true, with_jobs, with_rules}
+use Rattle.command_line.proofs.Words.{◌∙◌, ap, cond, refl}
 
 pub is_simple_app : is_simple_and_free scopectl ≡ true
 unfolding scopectl with_jobs with_rules

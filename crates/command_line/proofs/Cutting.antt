@@ -1,11 +1,6 @@
 -- What a text NAME=MS says.
-use Rattle.std.proofs.Common.{◌≡◌, ◌∙◌, ℕ, ◌+◌, Bool, true, false, refl, sym, ap, arith, List, [], Option, Some, None, length, drop, Bor}
-use Rattle.std.specs.List.{after_first, before_first, position_or_len}
-use Rattle.std.proofs.lemmas.List.{drop_all}
-use Rattle.std.proofs.lemmas.Str.Pattern.{IsSplitOnceResult, split_once_first}
-use Rattle.scope_rules.specs.NameText.{is_name}
-use Rattle.command_line.specs.Settings.{delay_said, greatest_of, is_equals, plain_number}
-use Rattle.command_line.specs.declared.settings.Setting.TheVariants.{After}
+use Rattle.command_line.specs.{[], ℕ, ◌≡◌, After, Bool, List, None, Option, Some, after_first, before_first, delay_said, false, greatest_of, is_equals, is_name, plain_number, position_or_len, true}
+use Rattle.command_line.proofs.Words.{◌+◌, ◌∙◌, Bor, IsSplitOnceResult, ap, arith, drop, drop_all, length, refl, split_once_first, sym}
 use Rattle.command_line.proofs.Built.{same_either}
 
 -- ---- if `split_once` cuts

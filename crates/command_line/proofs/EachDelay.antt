@@ -1,10 +1,6 @@
 -- What texts say, text by text, if each says a delay.
-use Rattle.std.proofs.Common.{◌≡◌, ◌∙◌, ◌++◌, ◌+◌, ◌<◌, ◌≤◌, ℕ, refl, sym, ap, List, [], ◌∷◌, drop, get_or, length, map, Option, Some, None, add-one, append-nil, append_assoc}
-use Rattle.std.specs.Prelude.{option_and_then, option_map}
-use Rattle.std.proofs.Math.Seq.{drop-cons}
-use Rattle.std.proofs.lemmas.List.{drop_all}
-use Rattle.command_line.specs.Delays.{each_said}
-use Rattle.command_line.specs.Settings.{NameAndMillis, delay_said}
+use Rattle.command_line.specs.{[], ℕ, ◌++◌, ◌∷◌, ◌≡◌, ◌≤◌, List, NameAndMillis, None, Option, Some, delay_said, each_said, map, option_and_then, option_map}
+use Rattle.command_line.proofs.Words.{◌+◌, ◌<◌, ◌∙◌, add-one, ap, append-nil, append_assoc, drop, drop-cons, drop_all, get_or, length, refl, sym}
 use Rattle.std.specs.Borrow.{Bor}
 
 abbrev Word : Type 0

@@ -3,3 +3,4 @@ mod Cutting
 mod EachDelay
 mod Numbers
 mod Parsed
+mod Words

@@ -1,13 +1,7 @@
 -- Numbers that are written plainly.
-use Rattle.std.proofs.Common.{◌≡◌, ◌∙◌, ◌<◌, ◌≤◌, ◌^◌, ◌&&◌, ◌==◌, ℕ, Bool, cond, not, true, false, refl, sym, ap, subst, arith, List, [], ◌∷◌, Some, None, Ok, Err, length, leb-true, le-leb, true≢false}
-use Rattle.std.specs.Prelude.{nat_le}
-use Rattle.std.specs.List.{list_all}
-use Rattle.std.specs.Char.{digit_value}
-use Rattle.std.specs.Str.Parse.{AllDigits, IsNumeral, ParsesUnsigned, digits_value, without_leading_plus}
-use Rattle.std.proofs.lemmas.Str.{digit_value_digit}
-use Rattle.std.proofs.lemmas.Str.Parse.{without_leading_plus_none}
-use Rattle.clap.proofs.WalkLemmas.{both}
-use Rattle.command_line.specs.Settings.{is_digit, is_plain, plain_number}
+use Rattle.command_line.specs.{[], ℕ, ◌&&◌, ◌==◌, ◌∷◌, ◌≡◌, ◌≤◌, AllDigits, Bool, IsNumeral, List, None, ParsesUnsigned, Some, digit_value, digits_value, false, is_digit, is_plain, list_all, nat_le}
+use Rattle.command_line.specs.{not, plain_number, true, without_leading_plus}
+use Rattle.command_line.proofs.Words.{◌<◌, ◌^◌, ◌∙◌, Err, Ok, ap, arith, both, cond, digit_value_digit, le-leb, leb-true, length, refl, subst, sym, true≢false, without_leading_plus_none}
 
 is_low : (d : ℕ) → is_digit d ≡ true → digit_value d < 10
 is_low d e =

@@ -1,19 +1,9 @@
 -- What a parse of the words comes to.
-use Rattle.std.proofs.Common.{◌≡◌, ◌∙◌, ◌⊎◌, inl, inr, ap, cond, subst, sym, refl, true, false, length, List, [], ◌∷◌, Option, None, Some}
-use Rattle.std.proofs.Math.Dec.{eqb-suc-zero}
-use Rattle.std.specs.Prelude.{option_map}
-use Rattle.clap.specs.Faults.{fault_of, is_simple_and_free}
-use Rattle.clap.specs.Kinds.{IsAmong, Kinds}
-use Rattle.clap.specs.Simple.{App, subcommand_of}
-use Rattle.clap.specs.Walk.{Row, Text, is_empty}
-use Rattle.clap.specs.declared.error.kind.ErrorKind.{ErrorKind}
-use Rattle.clap.specs.declared.error.kind.ErrorKind.TheVariants as kind
-use Rattle.command_line.specs.Application.{scopectl}
-use Rattle.command_line.specs.CommandLine.{entered_says, line_said}
-use Rattle.command_line.specs.Faults.{Answers, AnswersAlone, TellsEntered, TellsKind}
-use Rattle.command_line.specs.declared.faults.LineFault.{LineFault}
-use Rattle.command_line.specs.declared.faults.LineFault.TheVariants.{Help, Version, Usage, Memory}
+use Rattle.command_line.specs.{[], ◌∷◌, ◌≡◌, ◌⊎◌, AnswersAlone, App, ErrorKind, Help, IsAmong, Kinds, LineFault, List, Memory, None, Option, Row, Some, TellsEntered, TellsKind, Text, Usage, Version}
+use Rattle.command_line.specs.{entered_says, false, fault_of, is_empty, is_simple_and_free, line_said, option_map, scopectl, subcommand_of, true}
+use Rattle.command_line.proofs.Words.{◌∙◌, ap, cond, eqb-suc-zero, inl, inr, length, refl, subst, sym}
 use Rattle.command_line.proofs.Built.{is_simple_app}
+use Rattle.command_line.specs.Faults.{Answers}
 
 if_clear : {X : Type 0} (kinds : Kinds) (x : Option X) → kinds ≡ [] → cond (is_empty kinds) x None ≡ x
 if_clear kinds x none = subst (λ (ks : Kinds). cond (is_empty ks) x None ≡ x) (sym none) refl
@@ -26,7 +16,7 @@ the_only : (k asked : ErrorKind) → IsAmong k (asked ∷ []) → k ≡ asked
 the_only k asked (inl is) = is
 the_only k asked (inr none) = absurd none
 
-memory_is : (fault : LineFault) (k : ErrorKind) → TellsKind k fault → k ≡ kind.OutOfMemory → fault ≡ Memory
+memory_is : (fault : LineFault) (k : ErrorKind) → TellsKind k fault → k ≡ ErrorKind.OutOfMemory → fault ≡ Memory
 memory_is Help k told is = absurd (cc)
 memory_is Version k told is = absurd (cc)
 memory_is (Usage text) k told is = absurd (told.2 is)
@@ -59,7 +49,7 @@ module _ (words : List Text) (app : App) (is : app ≡ scopectl) where
     answers_entered None are Version told = absurd told
     answers_entered (Some entered) are Help told = inr (clear, ap (option_map (λ (e : Text × List Row). e.0)) (same (Some entered) are) ∙ ap (λ (word : Text). Some word) told)
     answers_entered (Some entered) are Version told = inr (clear, ap (option_map (λ (e : Text × List Row). e.0)) (same (Some entered) are) ∙ ap (λ (word : Text). Some word) told)
-    answers_entered rows are (Usage text) told = (not_alone kind.DisplayHelp, not_alone kind.DisplayVersion)
+    answers_entered rows are (Usage text) told = (not_alone ErrorKind.DisplayHelp, not_alone ErrorKind.DisplayVersion)
     answers_entered rows are Memory told = tt
 
   -- ---- it failed
@@ -72,18 +62,18 @@ module _ (words : List Text) (app : App) (is : app ≡ scopectl) where
     unfolding line_said
     refused h = ap (λ b. cond b (entered_says (subcommand_of scopectl words)) None) (some_kind k (fault_of scopectl words) (among h))
 
-    pub refused_of : (k ≡ kind.OutOfMemory) ⊎ IsAmong k (fault_of app words) → (fault ≡ Memory) ⊎ (line_said words ≡ None)
+    pub refused_of : (k ≡ ErrorKind.OutOfMemory) ⊎ IsAmong k (fault_of app words) → (fault ≡ Memory) ⊎ (line_said words ≡ None)
     refused_of (inl memory) = inl (memory_is fault k told memory)
     refused_of (inr h) = inr (refused h)
 
-  pub answers_of : (fault : LineFault) (k : ErrorKind) → TellsKind k fault → (k ≡ kind.OutOfMemory) ⊎ IsAmong k (fault_of app words) → Answers words fault
+  pub answers_of : (fault : LineFault) (k : ErrorKind) → TellsKind k fault → (k ≡ ErrorKind.OutOfMemory) ⊎ IsAmong k (fault_of app words) → Answers words fault
   answers_of Help k told (inl memory) = absurd (cc)
   answers_of Help k told (inr h) = inl (subst (λ (asked : ErrorKind). IsAmong asked (fault_of scopectl words)) told (among Help k told h))
   answers_of Version k told (inl memory) = absurd (cc)
   answers_of Version k told (inr h) = inl (subst (λ (asked : ErrorKind). IsAmong asked (fault_of scopectl words)) told (among Version k told h))
   answers_of (Usage text) k told (inl memory) = absurd (told.2 memory)
   answers_of (Usage text) k told (inr h) = (
-    λ (help : AnswersAlone kind.DisplayHelp words). told.0 (the_only k kind.DisplayHelp (subst (λ (ks : Kinds). IsAmong k ks) help (among (Usage text) k told h))),
-    λ (version : AnswersAlone kind.DisplayVersion words). told.1 (the_only k kind.DisplayVersion (subst (λ (ks : Kinds). IsAmong k ks) version (among (Usage text) k told h))),
+    λ (help : AnswersAlone ErrorKind.DisplayHelp words). told.0 (the_only k ErrorKind.DisplayHelp (subst (λ (ks : Kinds). IsAmong k ks) help (among (Usage text) k told h))),
+    λ (version : AnswersAlone ErrorKind.DisplayVersion words). told.1 (the_only k ErrorKind.DisplayVersion (subst (λ (ks : Kinds). IsAmong k ks) version (among (Usage text) k told h))),
   )
   answers_of Memory k told h = tt

@@ -1,14 +1,7 @@
 -- The application, as a parse reads it.
-use Rattle.std.specs.Prelude.{List, ℕ, Some, true, codes, fold, map}
-use Rattle.clap.specs.Simple.{App, new_app, new_rule, on_top, with_rule, with_subcommand}
-use Rattle.clap.specs.Walk.{Rule}
-use Rattle.clap.specs.declared.builder.action.ArgAction.TheVariants.{Append, SetTrue}
-use Rattle.command_line.specs.Jobs.{all_jobs, command_word, flags_of, settings_of}
-use Rattle.command_line.specs.Settings.{flag_name, name_of}
-use Rattle.command_line.specs.declared.lines.Job.{Job}
-use Rattle.command_line.specs.declared.settings.Flag.{Flag}
-use Rattle.command_line.specs.declared.settings.Setting.{Setting}
-use Rattle.command_line.specs.declared.settings.Setting.TheVariants.{After, File, Notes, Answers}
+use Rattle.command_line.specs.Words.{ℕ, After, Answers, App, Append, File, Flag, Job, List, Notes, Rule, SetTrue, Setting, Some, codes, fold, map, new_app, new_rule, on_top, true, with_rule}
+use Rattle.command_line.specs.Words.{with_subcommand}
+use Rattle.command_line.specs.{Jobs.all_jobs, Jobs.command_word, Jobs.flags_of, Jobs.settings_of, Settings.flag_name, Settings.name_of}
 
 -- a text that stands alone
 abbrev pub file_rule : List ℕ → Rule

@@ -1,8 +1,5 @@
 -- When output has colors.
-use Rattle.std.specs.Prelude.{ℕ, List, Option, Some, None, codes, if◌then◌else◌}
-use Rattle.std.specs.Str.{bytes_eq}
-use Rattle.command_line.specs.declared.colors.ColorChoice.{ColorChoice}
-use Rattle.command_line.specs.declared.colors.ColorChoice.TheVariants.{Auto, Always, Never}
+use Rattle.command_line.specs.Words.{ℕ, Always, Auto, ColorChoice, List, Never, None, Option, Some, bytes_eq, codes, if◌then◌else◌}
 
 -- the choice of this name
 abbrev pub choice_named : List ℕ → Option ColorChoice

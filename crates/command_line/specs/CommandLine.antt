@@ -1,35 +1,13 @@
 -- What the words of a command line say.
-use Rattle.std.specs.Prelude.{◌≡◌, ℕ, Bool, true, false, List, Option, Some, None, ◌==◌, ◌||◌, codes, map, if◌then◌else◌}
-use Rattle.std.specs.Prelude.{option_map, option_and_then}
-use Rattle.std.specs.Option.{option_map_or}
-use Rattle.std.specs.Str.{bytes_eq}
-use Rattle.clap.specs.Faults.{fault_of}
-use Rattle.clap.specs.Simple.{subcommand_of}
-use Rattle.clap.specs.Walk.{Row, Text, is_empty}
-use Rattle.command_line.specs.Application.{scopectl}
-use Rattle.command_line.specs.Colors.{choice_said}
-use Rattle.command_line.specs.Delays.{delays_said}
-use Rattle.command_line.specs.Jobs.{job_named}
-use Rattle.command_line.specs.Settings.{NameAndMillis, Numbers, number_by, delay_of, given_in, has_in, numbers_by, numbers_of, texts_in}
-use Rattle.scope_rules.specs.declared.types.capacity.TheConstants.{SCOPE_LIMIT, TASK_LIMIT, LOAD_LIMIT}
-use Rattle.command_line.specs.declared.colors.ColorChoice.{ColorChoice}
-use Rattle.command_line.specs.declared.lines.CommandLine.{CommandLine}
+use Rattle.command_line.specs.Words.{ℕ, ◌==◌, ◌||◌, ◌≡◌, After, Answers, Asked, Awaited, Bool, Check, Color, ColorChoice, CommandLine, Deadline, Depth, Dump, DumpFormat, Expect, Explain, File, First}
+use Rattle.command_line.specs.Words.{Format, From, Generate, Job, Journal, Json, LOAD_LIMIT, Lenient, Lines, List, None, Notes, Option, Page as page_file, PictureOptions, Quiet, Quote, Replay, Row}
+use Rattle.command_line.specs.Words.{Rows, SCOPE_LIMIT, Scope, ScriptOptions, Second, Seed, Setting, Since, Some, StreamOptions, Strict, TASK_LIMIT, Text, Timeline, To, Trace, TraceEvents, Tree}
+use Rattle.command_line.specs.Words.{TreeAfter, TreeOptions, Until, ViewOptions, Width, bytes_eq, codes, false, fault_of, if◌then◌else◌, is_empty, map, option_and_then, option_map, option_map_or}
+use Rattle.command_line.specs.Words.{subcommand_of, true}
+use Rattle.command_line.specs.Settings.{NameAndMillis, Numbers, delay_of, given_in, has_in, number_by, numbers_by, numbers_of, texts_in}
+use Rattle.command_line.specs.{Application.scopectl, Colors.choice_said, Delays.delays_said, Jobs.job_named}
+use Rattle.command_line.specs.declared.lines.Job.TheVariants.{Page}
 use Rattle.command_line.specs.declared.lines.CommandLine.TheVariants as line
-use Rattle.command_line.specs.declared.lines.Asked.{Asked}
-use Rattle.command_line.specs.declared.lines.ViewOptions.{ViewOptions}
-use Rattle.command_line.specs.declared.lines.ViewOptions.TheVariants as view
-use Rattle.command_line.specs.declared.settings.DumpFormat.{DumpFormat}
-use Rattle.command_line.specs.declared.settings.DumpFormat.TheVariants.{First, Second}
-use Rattle.command_line.specs.declared.settings.PictureOptions.{PictureOptions}
-use Rattle.command_line.specs.declared.settings.TreeOptions.{TreeOptions}
-use Rattle.command_line.specs.declared.settings.TreeOptions.TheVariants as part
-use Rattle.command_line.specs.declared.settings.ScriptOptions.{ScriptOptions}
-use Rattle.command_line.specs.declared.settings.StreamOptions.{StreamOptions}
-use Rattle.command_line.specs.declared.settings.Flag.TheVariants.{Strict, Explain, Trace, Quiet, Lenient, Awaited, Json}
-use Rattle.command_line.specs.declared.settings.Setting.{Setting}
-use Rattle.command_line.specs.declared.lines.Job.{Job}
-use Rattle.command_line.specs.declared.lines.Job.TheVariants.{Replay, Check, Dump, Tree, Timeline, TraceEvents, Page, Quote, Generate}
-use Rattle.command_line.specs.declared.settings.Setting.TheVariants.{Deadline, After, TreeAfter, Seed, Lines, Width, Rows, From, To, Since, Until, Scope, Depth, Format, Expect, Journal, Page as page_file, Color, File, Notes, Answers}
 
 -- ---- commands
 
@@ -81,10 +59,10 @@ picture_by rows = option_and_then (λ width. option_and_then (λ rows_shown. opt
 
 -- what of a tree is shown: what is waited for alone can't be a part of the tree
 abbrev pub tree_said : (awaited : Bool) (depth scope : Option ℕ) → Option TreeOptions
-tree_said false None None = Some part.Whole
-tree_said false None (Some s) = Some (part.Part None (Some s))
-tree_said false (Some n) scope = Some (part.Part (Some n) scope)
-tree_said true None None = Some part.Awaited
+tree_said false None None = Some TreeOptions.Whole
+tree_said false None (Some s) = Some (TreeOptions.Part None (Some s))
+tree_said false (Some n) scope = Some (TreeOptions.Part (Some n) scope)
+tree_said true None None = Some TreeOptions.Awaited
 tree_said true None (Some s) = None
 tree_said true (Some n) scope = None
 
@@ -106,10 +84,10 @@ generate_by rows = option_and_then (λ seed. option_map (λ lines. generate seed
 abbrev pub said_by : Job → List Row → Option Said
 said_by Replay rows = option_map (λ script. replay script (has_in rows Explain) (has_in rows Trace)) (script_by rows)
 said_by Check rows = Some (replay checked_script false false)
-said_by Dump rows = show_by rows (option_map (λ f. view.Dump f) (format_by rows)) true
-said_by Tree rows = show_by rows (option_map (λ t. view.Tree t) (tree_by rows)) (has_in rows Lenient)
-said_by Timeline rows = show_by rows (option_map (λ p. view.Timeline p) (picture_by rows)) (has_in rows Lenient)
-said_by TraceEvents rows = show_by rows (Some view.TraceEvents) (has_in rows Lenient)
+said_by Dump rows = show_by rows (option_map (λ f. ViewOptions.Dump f) (format_by rows)) true
+said_by Tree rows = show_by rows (option_map (λ t. ViewOptions.Tree t) (tree_by rows)) (has_in rows Lenient)
+said_by Timeline rows = show_by rows (option_map (λ p. ViewOptions.Timeline p) (picture_by rows)) (has_in rows Lenient)
+said_by TraceEvents rows = show_by rows (Some ViewOptions.TraceEvents) (has_in rows Lenient)
 said_by Page rows = option_map (λ script. page script (has_in rows Lenient)) (script_by rows)
 said_by Quote rows = quote_by rows
 said_by Generate rows = generate_by rows

@@ -1,8 +1,5 @@
 -- The delays of a quote: `--after NAME=MS`, as often as it stands.
-use Rattle.std.specs.Prelude.{ℕ, Bool, true, ◌&&◌, not, List, [], ◌∷◌, Option, Some, None, if◌then◌else◌}
-use Rattle.std.specs.Prelude.{option_and_then, option_map}
-use Rattle.std.specs.List.{list_any}
-use Rattle.std.specs.Str.{bytes_eq}
+use Rattle.command_line.specs.Words.{[], ℕ, ◌&&◌, ◌∷◌, Bool, List, None, Option, Some, bytes_eq, if◌then◌else◌, list_any, not, option_and_then, option_map, true}
 use Rattle.command_line.specs.Settings.{NameAndMillis, delay_said}
 
 -- what the texts say, in order, if each says a delay

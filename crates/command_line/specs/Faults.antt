@@ -1,14 +1,7 @@
 -- Which fault a command line gets.
-use Rattle.std.specs.Prelude.{◌≡◌, ◌≢◌, ◌⊎◌, ⊤, ℕ, List, [], ◌∷◌, Option, None, Some, codes, option_map, string_bytes}
-use Rattle.clap.specs.Faults.{fault_of}
-use Rattle.clap.specs.Kinds.{IsAmong}
-use Rattle.clap.specs.Simple.{subcommand_of}
-use Rattle.clap.specs.Walk.{Row, Text}
-use Rattle.clap.specs.declared.error.kind.ErrorKind.{ErrorKind}
-use Rattle.clap.specs.declared.error.kind.ErrorKind.TheVariants as kind
+use Rattle.command_line.specs.Words.{[], ℕ, ⊤, ◌∷◌, ◌≡◌, ◌≢◌, ◌⊎◌, ErrorKind, Help, IsAmong, LineFault, List, Memory, None, Option, Row, Some, Text, Usage, Version, codes, fault_of, option_map}
+use Rattle.command_line.specs.Words.{string_bytes, subcommand_of}
 use Rattle.command_line.specs.Application.{scopectl}
-use Rattle.command_line.specs.declared.faults.LineFault.{LineFault}
-use Rattle.command_line.specs.declared.faults.LineFault.TheVariants.{Help, Version, Usage, Memory}
 
 -- the words are not understood, or memory was refused
 abbrev pub IsUsageOrMemory : LineFault → Type 0
@@ -18,10 +11,10 @@ IsUsageOrMemory _ = ⊥
 
 -- the fault by which an error of a kind is told
 abbrev pub TellsKind : ErrorKind → LineFault → Type 0
-TellsKind k Help = k ≡ kind.DisplayHelp
-TellsKind k Version = k ≡ kind.DisplayVersion
+TellsKind k Help = k ≡ ErrorKind.DisplayHelp
+TellsKind k Version = k ≡ ErrorKind.DisplayVersion
 TellsKind k (Usage text) =
-    (k ≢ kind.DisplayHelp) × (k ≢ kind.DisplayVersion) × (k ≢ kind.OutOfMemory)
+    (k ≢ ErrorKind.DisplayHelp) × (k ≢ ErrorKind.DisplayVersion) × (k ≢ ErrorKind.OutOfMemory)
 TellsKind k Memory = ⊤
 
 -- the fault by which a command is told that is no job
@@ -49,15 +42,15 @@ Enters command words = (fault_of scopectl words ≡ []) × (option_map (λ enter
 
 -- the words ask for help, by `--help` or by the command `help`
 abbrev pub AsksHelp : List (List ℕ) → Type 0
-AsksHelp words = MayAnswer kind.DisplayHelp words ⊎ Enters (codes "help") words
+AsksHelp words = MayAnswer ErrorKind.DisplayHelp words ⊎ Enters (codes "help") words
 
 -- the words ask for the version, by `--version` or by the command `version`
 abbrev pub AsksVersion : List (List ℕ) → Type 0
-AsksVersion words = MayAnswer kind.DisplayVersion words ⊎ Enters (codes "version") words
+AsksVersion words = MayAnswer ErrorKind.DisplayVersion words ⊎ Enters (codes "version") words
 
 -- the words ask for neither by an option
 abbrev pub IsNoRequest : List (List ℕ) → Type 0
-IsNoRequest words = (AnswersAlone kind.DisplayHelp words → ⊥) × (AnswersAlone kind.DisplayVersion words → ⊥)
+IsNoRequest words = (AnswersAlone ErrorKind.DisplayHelp words → ⊥) × (AnswersAlone ErrorKind.DisplayVersion words → ⊥)
 
 -- help comes if the words ask for it, and so does the version
 abbrev pub Answers : List (List ℕ) → LineFault → Type 0

@@ -1,12 +1,8 @@
 -- The jobs: the word of each, and its options.
-use Rattle.std.specs.Prelude.{ℕ, List, [], ◌∷◌, Option, Some, None, codes, if◌then◌else◌}
-use Rattle.std.specs.Str.{bytes_eq}
-use Rattle.command_line.specs.declared.settings.Flag.{Flag}
-use Rattle.command_line.specs.declared.settings.Flag.TheVariants.{Strict, Explain, Trace, Quiet, Lenient, Awaited, Json}
-use Rattle.command_line.specs.declared.settings.Setting.{Setting}
-use Rattle.command_line.specs.declared.settings.Setting.TheVariants.{Scopes, Tasks, Load, Deadline, After, TreeAfter, Seed, Lines, Width, Rows, From, To, Since, Until, Scope, Depth, Format, Expect, Journal, Page as page_file, Color, File, Notes, Answers}
-use Rattle.command_line.specs.declared.lines.Job.{Job}
-use Rattle.command_line.specs.declared.lines.Job.TheVariants.{Replay, Check, Dump, Tree, Timeline, TraceEvents, Page, Quote, Generate}
+use Rattle.command_line.specs.Words.{[], ℕ, ◌∷◌, After, Answers, Awaited, Check, Color, Deadline, Depth, Dump, Expect, Explain, File, Flag, Format, From, Generate, Job, Journal, Json, Lenient, Lines}
+use Rattle.command_line.specs.Words.{List, Load, None, Notes, Option, Page as page_file, Quiet, Quote, Replay, Rows, Scope, Scopes, Seed, Setting, Since, Some, Strict, Tasks, Timeline, To, Trace}
+use Rattle.command_line.specs.Words.{TraceEvents, Tree, TreeAfter, Until, Width, bytes_eq, codes, if◌then◌else◌}
+use Rattle.command_line.specs.declared.lines.Job.TheVariants.{Page}
 
 -- the jobs, in the order of help
 abbrev pub all_jobs : List Job

@@ -1,21 +1,9 @@
 -- The options of a job, and what they say.
-use Rattle.std.specs.Prelude.{ℕ, Bool, List, [], ◌∷◌, Option, Some, None, ◌&&◌, ◌==◌, not, false, nat_le, codes, if◌then◌else◌, unwrap_or}
-use Rattle.std.specs.Prelude.{option_map, option_and_then}
-use Rattle.std.specs.List.{after_first, before_first, list_all}
-use Rattle.std.specs.Option.{option_map_or}
-use Rattle.std.specs.Str.Parse.{digits_value}
-use Rattle.std.specs.Str.{bytes_eq}
-use Rattle.clap.specs.Walk.{Row, all_of, first_of}
-use Rattle.scope_rules.specs.NameText.{is_name}
-use Rattle.scope_rules.specs.Names.{text_of}
-use Rattle.scope_rules.specs.declared.types.capacity.Limits.{Limits}
-use Rattle.scope_rules.specs.declared.types.capacity.TheConstants.{SCOPE_LIMIT, TASK_LIMIT, LEVEL_LIMIT, LOAD_LIMIT}
-use Rattle.command_line.specs.declared.settings.Delay.{Delay}
-use Rattle.command_line.specs.declared.settings.Flag.{Flag}
-use Rattle.command_line.specs.declared.settings.Flag.TheVariants.{Strict, Explain, Trace, Quiet, Lenient, Awaited, Json}
-use Rattle.command_line.specs.declared.settings.Setting.{Setting}
-use Rattle.command_line.specs.declared.settings.Setting.TheVariants.{Scopes, Tasks, Load, Deadline, After, TreeAfter, Seed, Lines, Width, Rows, From, To, Since, Until, Scope, Depth, Format, Expect, Journal, Page, Color, File, Notes, Answers}
-use Rattle.command_line.specs.declared.settings.TheConstants.{DAY_MILLIS, SEED_LIMIT, LINES_LIMIT, FORMAT_LIMIT, ROWS_LIMIT, MOMENT_LIMIT, SCOPE_NUMBER_LIMIT, WIDTH_LIMIT}
+use Rattle.command_line.specs.Words.{[], ℕ, ◌&&◌, ◌==◌, ◌∷◌, After, Answers, Awaited, Bool, Color, DAY_MILLIS, Deadline, Delay, Depth, Expect, Explain, FORMAT_LIMIT, File, Flag, Format, From, Journal}
+use Rattle.command_line.specs.Words.{Json, LEVEL_LIMIT, LINES_LIMIT, LOAD_LIMIT, Lenient, Limits, Lines, List, Load, MOMENT_LIMIT, None, Notes, Option, Page, Quiet, ROWS_LIMIT, Row, Rows, SCOPE_LIMIT}
+use Rattle.command_line.specs.Words.{SCOPE_NUMBER_LIMIT, SEED_LIMIT, Scope, Scopes, Seed, Setting, Since, Some, Strict, TASK_LIMIT, Tasks, To, Trace, TreeAfter, Until, WIDTH_LIMIT, Width, after_first}
+use Rattle.command_line.specs.Words.{all_of, before_first, bytes_eq, codes, digits_value, false, first_of, if◌then◌else◌, is_name, list_all, nat_le, not, option_and_then, option_map, option_map_or}
+use Rattle.command_line.specs.Words.{text_of, unwrap_or}
 
 -- an option's name, without its hyphens; a file that stands alone has one too, by which a parse knows it
 abbrev pub name_of : Setting → List ℕ

@@ -1,13 +1,8 @@
 -- The texts that the words ask for: help and the version.
-use Rattle.std.specs.Prelude.{◌≡◌, ◌⊎◌, ◌++◌, ℕ, Bool, false, List, [], ◌∷◌, codes, slice_get, if◌then◌else◌}
-use Rattle.std.specs.Prelude.{option_and_then}
-use Rattle.std.specs.Option.{option_map_or}
-use Rattle.std.specs.Str.{bytes_eq}
-use Rattle.command_line.specs.declared.help.TheConstants.{HELP, REPLAY_HELP, CHECK_HELP, DUMP_HELP, TREE_HELP, TIMELINE_HELP, TRACE_HELP, PAGE_HELP, QUOTE_HELP, GENERATE_HELP}
-use Rattle.command_line.specs.Faults.{AsksHelp, AsksVersion}
-use Rattle.command_line.specs.Jobs.{job_named}
-use Rattle.command_line.specs.declared.lines.Job.{Job}
-use Rattle.command_line.specs.declared.lines.Job.TheVariants.{Replay, Check, Dump, Tree, Timeline, TraceEvents, Page, Quote, Generate}
+use Rattle.command_line.specs.Words.{[], ℕ, ◌++◌, ◌∷◌, ◌≡◌, ◌⊎◌, Bool, CHECK_HELP, Check, DUMP_HELP, Dump, GENERATE_HELP, Generate, HELP, Job, List, PAGE_HELP, QUOTE_HELP, Quote, REPLAY_HELP, Replay}
+use Rattle.command_line.specs.Words.{TIMELINE_HELP, TRACE_HELP, TREE_HELP, Timeline, TraceEvents, Tree, bytes_eq, codes, false, if◌then◌else◌, option_and_then, option_map_or, slice_get}
+use Rattle.command_line.specs.{Faults.AsksHelp, Faults.AsksVersion, Jobs.job_named}
+use Rattle.command_line.specs.declared.lines.Job.TheVariants.{Page}
 
 -- the help of a job
 abbrev pub help_of_job : Job → List ℕ

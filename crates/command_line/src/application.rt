@@ -1,10 +1,7 @@
 //! The application as `clap` knows it: its commands and their options. Help and the version are texts of
 //! our own (`help`).
-ghost use Rattle.std.specs.Prelude.{◌≡◌, IfOk, false, map};
-ghost use Rattle.clap.specs.Words.{app_of, rule_of, with_subcommand};
-ghost use Rattle.clap.specs.declared.builder.command.Command.TheViews.{out-Command as fields_of};
-ghost use Rattle.command_line.specs.Application.{command_of, flag_rule, help_command, program, scopectl, setting_rule, with_jobs, with_rules};
-ghost use Rattle.command_line.specs.Jobs.{all_jobs};
+ghost use Rattle.command_line.specs.{◌≡◌, IfOk, all_jobs, app_of, command_of, false, flag_rule, help_command, map, out-Command as fields_of, program, rule_of, scopectl, setting_rule, with_jobs};
+ghost use Rattle.command_line.specs.{with_rules, with_subcommand};
 
 use crate::help;
 use crate::lines::{JOBS, Job, TOPIC};

@@ -1,7 +1,5 @@
 //! When output has colors.
-ghost use Rattle.std.specs.Prelude.{◌≡◌, ◌⊎◌, IfOk, IfErr, None, Some, option_map};
-ghost use Rattle.command_line.specs.Colors.{choice_named, choice_said};
-ghost use Rattle.command_line.specs.Faults.{IsUsageOrMemory};
+ghost use Rattle.command_line.specs.{◌≡◌, ◌⊎◌, IfErr, IfOk, IsUsageOrMemory, None, Some, choice_named, choice_said, option_map};
 
 use crate::faults::LineFault;
 use std::alloc::Global;

@@ -1,10 +1,5 @@
 //! The delays of a quote: `--after NAME=MS`, as often as it stands.
-ghost use Rattle.std.specs.Prelude.{◌≡◌, ◌⊎◌, IfOk, IfErr, Some, None, map};
-ghost use Rattle.clap.specs.Words.{found_of, rows_of};
-ghost use Rattle.command_line.specs.Delays.{are_apart, delays_said, each_said, is_delayed};
-ghost use Rattle.command_line.specs.Faults.{IsUsageOrMemory};
-ghost use Rattle.command_line.specs.Settings.{delay_of, texts_in};
-ghost use Rattle.scope_rules.specs.Names.{text_of};
+ghost use Rattle.command_line.specs.{◌≡◌, ◌⊎◌, IfErr, IfOk, IsUsageOrMemory, None, Some, are_apart, delay_of, delays_said, each_said, found_of, is_delayed, map, rows_of, text_of, texts_in};
 
 use crate::faults::LineFault;
 use crate::settings::{Delay, Setting, delay_said, refused_value, refused_words};

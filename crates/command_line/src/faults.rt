@@ -1,8 +1,5 @@
 //! Why a command line gives no command.
-ghost use Rattle.std.specs.Prelude.{◌≡◌, Some};
-ghost use Rattle.clap.specs.Words.{kind_of};
-ghost use Rattle.command_line.specs.Faults.{TellsKind, fault_text};
-ghost use Rattle.command_line.specs.declared.faults.LineFault.TheVariants.{Memory};
+ghost use Rattle.command_line.specs.{◌≡◌, Memory, Some, TellsKind, fault_text, kind_of};
 
 use crate::hints::Hint;
 use clap::Error;

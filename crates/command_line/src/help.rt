@@ -1,6 +1,5 @@
 //! The texts of the help and the version.
-ghost use Rattle.std.specs.Prelude.{◌≡◌, map};
-ghost use Rattle.command_line.specs.Texts.{has_help_word, help_in, help_of, help_of_job};
+ghost use Rattle.command_line.specs.{◌≡◌, has_help_word, help_in, help_of, help_of_job, map};
 
 use crate::lines::Job;
 

@@ -1,10 +1,8 @@
 //! From the program's words to the command that they say.
-ghost use Rattle.std.specs.Prelude.{◌≡◌, ◌⊎◌, IfOk, IfErr, Some, None, map, option_map};
-ghost use Rattle.clap.specs.Words.{found_of, rows_of, subcommand_rows_of};
-ghost use Rattle.command_line.specs.CommandLine.{entered_says, expected_of, file_of, is_check, is_hyphen, line_said, said_by, said_of, rows_say, show_by, streams_by, streams_of, value_of};
-ghost use Rattle.command_line.specs.Jobs.{all_jobs, command_word, flags_of, job_named, settings_of};
-ghost use Rattle.command_line.specs.Faults.{Answers, IsUsageOrMemory, TellsEntered, TellsWord};
-ghost use Rattle.command_line.specs.Settings.{has_in};
+ghost use Rattle.command_line.specs.{◌≡◌, ◌⊎◌, IfErr, IfOk, IsUsageOrMemory, None, Some, TellsEntered, TellsWord, all_jobs, command_word, entered_says, expected_of, file_of, flags_of, found_of};
+ghost use Rattle.command_line.specs.{has_in, is_check, is_hyphen, job_named, line_said, map, option_map, rows_of, rows_say, said_by, said_of, settings_of, show_by, streams_by, streams_of};
+ghost use Rattle.command_line.specs.{subcommand_rows_of, value_of};
+ghost use Rattle.command_line.specs.Faults.{Answers};
 
 use crate::colors::color_choice;
 use crate::delays::delays;

@@ -1,10 +1,7 @@
 //! The options of a job, and what they say.
-ghost use Rattle.std.specs.Prelude.{◌≡◌, ◌≤◌, ◌⊎◌, Bool, IfOk, IfErr, IfSome, Some, None, option_map};
-ghost use Rattle.std.specs.List.{list_all};
-ghost use Rattle.clap.specs.Words.{first_of, found_of, rows_of};
-ghost use Rattle.command_line.specs.CommandLine.{format_by, format_said, picture_by, script_by, script_of, tree_by, tree_said};
-ghost use Rattle.command_line.specs.Faults.{IsUsageOrMemory};
-ghost use Rattle.command_line.specs.Settings.{flag_name, given_in, greatest_of, has_in, is_digit, is_plain, name_of, setting_number, numbers_by, numbers_of, plain_number, number_by, delay_of, delay_said};
+ghost use Rattle.command_line.specs.{◌≡◌, ◌≤◌, ◌⊎◌, Bool, IfErr, IfOk, IfSome, IsUsageOrMemory, None, Some, delay_of, delay_said, first_of, flag_name, format_by, format_said, found_of, given_in};
+ghost use Rattle.command_line.specs.{greatest_of, has_in, is_digit, is_plain, list_all, name_of, number_by, numbers_by, numbers_of, option_map, picture_by, plain_number, rows_of, script_by};
+ghost use Rattle.command_line.specs.{script_of, setting_number, tree_by, tree_said};
 
 use crate::colors::ColorChoice;
 use crate::faults::LineFault;

@@ -117,7 +117,7 @@ impl Backend {
                 down: tried < self.fails,
             })?;
         }
-        race(cx, name, Options::PLAIN, replicas)
+        race(cx, name, Options::PLAIN, replicas)?.into_result()
     }
 }
 
@@ -176,16 +176,14 @@ impl Request {
             cx,
             |cx, _scope| Ok::<bool, Refusal>(cx.sleep(10)?.is_none()),
         )?;
-        match found.as_slice() {
-            [stock, price, rating, delivery] => Ok(Answer {
-                stock: *stock,
-                price: *price,
-                rating: *rating,
-                delivery: *delivery,
-                audited,
-            }),
-            _ => Err(Refusal::Unavailable),
-        }
+        let mut values = found.into_iter().map(|came| came.value());
+        Ok(Answer {
+            stock: values.next().flatten(),
+            price: values.next().flatten(),
+            rating: values.next().flatten(),
+            delivery: values.next().flatten(),
+            audited,
+        })
     }
 }
 
@@ -208,13 +206,14 @@ impl Serves<Work> for FanOut {
                 .push(Request { io, number })
                 .map_err(Refusal::from)?;
         }
-        Ok(map_at_most(cx, named(b"request"), Options::PLAIN, 3, requests)??)
+        let found = map_at_most(cx, named(b"request"), Options::PLAIN, 3, requests)?;
+        Ok(all_values(cx.alloc(), found)?.into_result()?)
     }
 }
 
 /// Prints what each request comes to.
 pub fn show<R: PoolRuntime + SystemTime>(rt: &R, io: HostRuntime) -> std::io::Result<()> {
-    match serve::<Work, FanOut, R>(rt, io.alloc(), 8, FanOut(io)) {
+    match serve::<Work, (), FanOut, R>(rt, io.alloc(), 8, Hooks::none(), FanOut(io)) {
         Ok(answers) => {
             for answer in answers {
                 let Answer {

@@ -70,7 +70,7 @@ impl Supervisor {
 
 /// Prints how each life ended.
 pub fn show<R: PoolRuntime + SystemTime>(rt: &R, io: HostRuntime) -> std::io::Result<()> {
-    match serve::<Beat, Supervisor, R>(rt, io.alloc(), 4, Supervisor(io)) {
+    match serve::<Beat, (), Supervisor, R>(rt, io.alloc(), 4, Hooks::none(), Supervisor(io)) {
         Ok(()) => println!(io; "well"),
         Err(failed) => println!(io; "{failed}"),
     }

@@ -90,12 +90,13 @@ pub fn open_marked<N: RealmName, R: Wait>(
     rt: &R,
     realm: &Realm<AnyEnd, N>,
     token: &mut ActorToken,
+    options: Options,
 ) -> Result<(ScopeId, MarkCell, Seat), Fail>
     requires { token.old.table ≡ N.table }
     ensures token { token.new ≡ record token.old { seen = token.new.seen } }
     ensures cell { IfOk result (λ opened. IsFresh opened.1 opened.2) }
 {
-    match realm.open_marked(rt, token, Joiner::AwaitAll, Options::PLAIN) {
+    match realm.open_marked(rt, token, Joiner::AwaitAll, options) {
         Ok(opened) => Ok(opened),
         Err((refusal, _)) => Err(refusal)?,
     }

@@ -6,6 +6,8 @@
 #[cfg(test)]
 mod common;
 #[cfg(test)]
+mod handing;
+#[cfg(test)]
 mod rows;
 #[cfg(test)]
 mod threads;

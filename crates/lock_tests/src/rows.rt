@@ -1,6 +1,7 @@
 //! Rows of calls of a realm, each on one of its own.
 ghost use Rattle.std.specs.Prelude.{◌≡◌};
 
+use crate::handing::{Handing, Watcher, the_watch_is_handed_on};
 use crate::threads::{ten_rounds, two_served, waited};
 use crate::waits::{
     Waker, a_cancel_wakes, a_close_wakes, a_mark_wakes, a_reject_wakes, an_end_wakes_a_close,
@@ -26,6 +27,7 @@ enum Row {
     WokenByClose,
     CloseWoken,
     SleepWoken,
+    HandedOn(Handing),
     Marked,
     TenRounds,
 }
@@ -35,6 +37,7 @@ impl Row {
     fn limits(self) -> Option<Limits> {
         match self {
             Row::TenRounds => Limits::new(1, 1, 7),
+            Row::HandedOn(handing) if handing.is_refused => Limits::new(3, 2, 18), // no load for a tick
             _ => Some(Limits::GREATEST),
         }
     }
@@ -42,6 +45,7 @@ impl Row {
 
 fn play<N: RealmName + Send + Sync, R: Threads + Wait + SystemTime + Abort + Sync>(
     rt: &R,
+    alloc: Global,
     realm: &Realm<AnyEnd, N>,
     mut main: ActorToken,
     row: Row,
@@ -56,6 +60,7 @@ fn play<N: RealmName + Send + Sync, R: Threads + Wait + SystemTime + Abort + Syn
         Row::WokenByClose => a_close_wakes(rt, realm, &mut main),
         Row::CloseWoken => an_end_wakes_a_close(rt, realm, &mut main),
         Row::SleepWoken => a_nearer_deadline_wakes(rt, realm, &mut main),
+        Row::HandedOn(handing) => the_watch_is_handed_on(rt, alloc, realm, &mut main, handing),
         Row::Marked => a_mark_wakes(rt, realm, &mut main),
         Row::TenRounds => ten_rounds(rt, realm, main),
     }
@@ -71,7 +76,7 @@ fn check<N: RealmName + Send + Sync, R: Threads + Wait + SystemTime + Abort + Sy
 {
     let limits = row.limits().ok_or("limits")?;
     let (realm, main) = Realm::<AnyEnd, N>::new(alloc, seed, limits)?;
-    play(rt, &realm, main, row)
+    play(rt, alloc, &realm, main, row)
 }
 
 /// The rows, and how often each is played.
@@ -89,10 +94,33 @@ const ROWS: [(Row, u32); 11] = [
     (Row::TenRounds, 1),
 ];
 
+/// The waits whose end hands on the watch.
+const WATCHERS: [Watcher; 5] = [
+    Watcher::Join,
+    Watcher::Close,
+    Watcher::Mark,
+    Watcher::Sleep,
+    Watcher::Ring,
+];
+
 #[test]
 fn rows_over_a_realm(rt: HostRuntime) -> Result<(), Fail> {
     for (row, times) in ROWS {
         for _ in 0..times {
+            check::<Brand, _>(&rt, rt.alloc(), Seed::new(rt.alloc())?, row)?;
+        }
+    }
+    Ok(())
+}
+
+#[test]
+fn each_wait_that_ends_hands_on_the_watch(rt: HostRuntime) -> Result<(), Fail> {
+    for watcher in WATCHERS {
+        for is_refused in [false, true] {
+            let row = Row::HandedOn(Handing {
+                watcher,
+                is_refused,
+            });
             check::<Brand, _>(&rt, rt.alloc(), Seed::new(rt.alloc())?, row)?;
         }
     }

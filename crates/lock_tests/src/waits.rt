@@ -187,7 +187,7 @@ pub fn a_mark_wakes<N: RealmName + Send + Sync, R: Threads + Wait + Abort + Sync
 ) -> Result<(), Fail>
     requires { main.old.table ≡ N.table }
 {
-    let (scope, cell, mut seat) = open_marked(rt, realm, main)?;
+    let (scope, cell, mut seat) = open_marked(rt, realm, main, Options::PLAIN)?;
     let mut token = run(rt, realm, main, scope)?;
     let (is_cancelled, marked) = thread::join(
         rt,

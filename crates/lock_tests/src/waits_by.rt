@@ -29,13 +29,32 @@ impl Look for Glance {
     }
 }
 
-/// A clock that reads what is stored, and takes the realm's lock first.
+/// A clock that takes the realm's lock first, and then counts the reading, and reads what is stored.
 #[derive(Drop)]
-struct LockingClock<'a, N: RealmName, R: Wait> {
+pub struct LockingClock<'a, N: RealmName, R: Wait> {
     rt: &'a R,
     realm: &'a Realm<AnyEnd, N>,
     time: &'a AtomicU64,
+    readings: &'a AtomicU64,
     last: Option<u64>,
+}
+
+impl<'a, N: RealmName, R: Wait> LockingClock<'a, N, R> {
+    /// Such a clock of the realm.
+    pub fn new(
+        rt: &'a R,
+        realm: &'a Realm<AnyEnd, N>,
+        time: &'a AtomicU64,
+        readings: &'a AtomicU64,
+    ) -> LockingClock<'a, N, R> {
+        LockingClock {
+            rt,
+            realm,
+            time,
+            readings,
+            last: None,
+        }
+    }
 }
 
 impl<N: RealmName, R: Wait> Clock for LockingClock<'_, N, R> {
@@ -45,6 +64,7 @@ impl<N: RealmName, R: Wait> Clock for LockingClock<'_, N, R> {
 
     fn now(&mut self) -> u64 {
         self.realm.look_from_outside(self.rt, Glance);
+        self.readings.fetch_add(1, Ordering::SeqCst);
         let now = self.time.load(Ordering::SeqCst);
         self.last = Some(now);
         now
@@ -82,13 +102,8 @@ pub fn a_nearer_deadline_wakes<
     let scope = open(rt, realm, main, Options::PLAIN)?;
     let ticket = fork(rt, realm, main, scope)?;
     let (_ticket, token) = realm.start(rt, ticket);
-    let time = AtomicU64::new(0);
-    let mut clock = LockingClock {
-        rt,
-        realm,
-        time: &time,
-        last: None,
-    };
+    let (time, readings) = (AtomicU64::new(0), AtomicU64::new(0));
+    let mut clock = LockingClock::new(rt, realm, &time, &readings);
     let (is_open, slept) = thread::join(
         rt,
         ||

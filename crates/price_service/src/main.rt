@@ -47,7 +47,7 @@ impl Serves<Ask> for First {
 }
 
 fn main(rt: HostRuntime) -> std::io::Result<()> {
-    match serve::<Ask, First, _>(&rt, rt.alloc(), 4, First(rt)) {
+    match serve::<Ask, (), First, _>(&rt, rt.alloc(), 4, Hooks::none(), First(rt)) {
         Ok(outcome) => println!(rt; "{outcome}"),
         Err(failed) => println!(rt; "{failed}"),
     }

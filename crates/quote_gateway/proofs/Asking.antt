@@ -1,48 +1,13 @@
 -- How the scope of a request is opened, and how its tasks are forked one after the other.
-use Rattle.std.proofs.Common.{◌≡◌, ℕ, ◌+◌, ◌≤◌, ◌==◌, ◌||◌, Bool, true, false, cond, option_map, Some, List, [], ◌∷◌, ◌++◌, map, refl, sym, ap, ◌∙◌, subst, arith}
-use Rattle.std.proofs.lemmas.Bool.{both_ways, eqb-true, eq-eqb, false_from_ne_true}
-use Rattle.std.proofs.lemmas.List.{append-nil, map-append}
-use Rattle.std.specs.List.{filter}
-use Rattle.scope_rules.specs.declared.types.capacity.Limits.{Limits}
-use Rattle.scope_rules.specs.declared.types.answers.ForkReply.{ForkReply}
-use Rattle.scope_rules.specs.declared.types.events.Event.{Event}
-use Rattle.scope_rules.specs.declared.types.events.Event.TheVariants.{Open, Fork, Reject}
-use Rattle.scope_rules.specs.declared.types.events.Options.{Options}
-use Rattle.scope_rules.specs.declared.types.joiners.Policy.{Policy}
-use Rattle.scope_rules.specs.declared.types.records.Forking.{Forking}
-use Rattle.scope_rules.specs.declared.types.records.Opening.{Opening}
-use Rattle.scope_rules.specs.Ends.{LabelValue}
-use Rattle.scope_rules.specs.History.{History, followed, opening, scopes, tasks, task_numbers}
-use Rattle.scope_rules.specs.Cancels.{is_cancelled}
-use Rattle.scope_rules.specs.Completions.{is_task_of}
-use Rattle.scope_rules.specs.Nests.{tasks_of, label}
-use Rattle.scope_rules.specs.Replies.{base_of, fork_reply}
-use Rattle.scope_rules.specs.Tasks.{rejected}
-use Rattle.scope_rules.specs.Legal.{Accepts, Legal}
-use Rattle.scope_rules.proofs.Growing.{numbers_grow}
-use Rattle.scope_rules.proofs.Innermosts.{opened_after, innermost_unclosed}
-use Rattle.scope_rules.proofs.InnermostSteps.{innermost_opened}
-use Rattle.scope_rules.proofs.Nesting.{forked_opened}
-use Rattle.scope_rules.proofs.NewScopes.{HasNoTask, no_task_of}
-use Rattle.scope_rules.proofs.OneEventMore.{rejected_grows}
-use Rattle.scope_rules.proofs.PassedRows.{fork_passed}
-use Rattle.scope_rules.proofs.StageSteps.{next_forking}
-use Rattle.scope_index.proofs.Over.{forks_for}
-use Rattle.scope_index.proofs.TaskLists.{if_one, tasks_kept, tasks_forked}
-use Rattle.share_ledger.specs.declared.steps.RealmStep.{RealmStep}
-use Rattle.share_ledger.specs.declared.steps.RealmStep.TheVariants.{Happened, Asked, Retirement}
-use Rattle.share_ledger.specs.declared.steps.Holder.TheVariants.{TokenOf}
-use Rattle.share_ledger.specs.Holders.{Agrees}
-use Rattle.share_ledger.specs.Steps.{advance, advanced, asked, fresh, history_of, IsLegal}
-use Rattle.share_ledger.proofs.Histories.{advanced-append, legal_history}
-use Rattle.share_ledger.specs.Values.{OwnerValue}
-use Rattle.realm_core.specs.Calls.{SeesMore, Added, history_seen}
-use Rattle.realm_core.specs.Waiting.{IsOpenOf}
-use Rattle.quote_plan.specs.Plans.{policy_of}
-use Rattle.quote_plan.specs.declared.plans.Mode.{Mode}
-use Rattle.quote_gateway.specs.Going.{shapes, nests, GoesOn, KeepsScopes, KeepsTasks, IsOpenHere, HasForked, Opens, ForkedAs, task_in}
-use Rattle.quote_gateway.proofs.Going.{FindsEnds, shapes_find, nests_find, agreed, walked, open_going, open_followed, legal_there, history_added, same_actor, same_limits}
+use Rattle.quote_gateway.specs.{[], ℕ, ◌++◌, ◌==◌, ◌∷◌, ◌≡◌, ◌≤◌, Accepts, Added, Agrees, Asked, Bool, Event, Fork, ForkReply, ForkedAs, Forking, GoesOn, Happened, HasForked, History, IsLegal}
+use Rattle.quote_gateway.specs.{IsOpenHere, IsOpenOf, KeepsScopes, KeepsTasks, LabelValue, Legal, Limits, List, Mode, Open, Opening, Opens, Options, OwnerValue, Policy, RealmStep, Reject, Retirement}
+use Rattle.quote_gateway.specs.{SeesMore, Some, TokenOf, advance, advanced, asked, base_of, false, filter, followed, fork_reply, fresh, history_of, history_seen, is_cancelled, is_task_of, label, map}
+use Rattle.quote_gateway.specs.{nests, opening, policy_of, rejected, scopes, shapes, task_in, task_numbers, tasks, tasks_of, true}
+use Rattle.quote_gateway.proofs.Words.{◌+◌, ◌||◌, ◌∙◌, HasNoTask, advanced-append, ap, append-nil, arith, both_ways, cond, eq-eqb, eqb-true, false_from_ne_true, fork_passed, forked_opened, forks_for}
+use Rattle.quote_gateway.proofs.Words.{if_one, innermost_opened, innermost_unclosed, legal_history, map-append, next_forking, no_task_of, numbers_grow, opened_after, option_map, refl, rejected_grows}
+use Rattle.quote_gateway.proofs.Words.{subst, sym, tasks_forked, tasks_kept}
 use Rattle.quote_gateway.proofs.Following.{labels_stay, task_is}
+use Rattle.quote_gateway.proofs.Going.{FindsEnds, agreed, history_added, legal_there, nests_find, open_followed, open_going, same_actor, same_limits, shapes_find, walked}
 
 -- ---- what stays
 

@@ -1,24 +1,7 @@
 -- What the close of a request's scope adds, with a report or without.
-use Rattle.std.proofs.Common.{ℕ, Ok, Err, Result, List, [], ◌∷◌, ◌++◌, map, refl, sym, subst, inl, inr}
-use Rattle.std.specs.Prelude.{IsOk}
-use Rattle.scope_rules.specs.declared.types.answers.Cancelling.{Cancelling}
-use Rattle.scope_rules.specs.declared.types.answers.Cancelling.TheVariants.{Recorded, Already}
-use Rattle.scope_rules.specs.declared.types.answers.Verdict.{Verdict}
-use Rattle.scope_rules.specs.declared.types.events.Event.TheVariants.{BeginClose}
-use Rattle.scope_rules.specs.declared.types.refusals.Refusal.{Refusal}
-use Rattle.share_ledger.specs.declared.steps.RealmStep.{RealmStep}
-use Rattle.share_ledger.specs.declared.steps.RealmStep.TheVariants.{Happened}
-use Rattle.share_ledger.specs.Steps.{IsLegal}
-use Rattle.share_ledger.proofs.Histories.{beginning_legal}
-use Rattle.share_ledger.specs.Values.{OwnerValue}
-use Rattle.realm_core.specs.Calls.{SeesMore}
-use Rattle.realm_core.specs.Closes.{Begins, ClosesBare, ClosesDown}
-use Rattle.realm_core.specs.Ends.{Ends, end_step}
-use Rattle.realm_core.specs.Reports.{numbers}
-use Rattle.realm_core.specs.declared.reports.CloseReport.{CloseReport}
-use Rattle.thread_pool.specs.Teams.{TeamValue}
-use Rattle.job_runner.specs.Reports.{ClosesHere, StaysHere, StaysBegunHere}
-use Rattle.quote_gateway.specs.Going.{shapes, KeepsTasks, EndsScope}
+use Rattle.quote_gateway.specs.{[], ℕ, ◌++◌, ◌∷◌, Already, BeginClose, Begins, Cancelling, CloseReport, ClosesBare, ClosesDown, ClosesHere, Ends, EndsScope, Err, Happened, IsLegal, IsOk, KeepsTasks}
+use Rattle.quote_gateway.specs.{List, OwnerValue, RealmStep, Recorded, Refusal, Result, SeesMore, StaysBegunHere, StaysHere, TeamValue, Verdict, end_step, map, numbers, shapes}
+use Rattle.quote_gateway.proofs.Words.{Ok, beginning_legal, inl, inr, refl, subst, sym}
 use Rattle.quote_gateway.proofs.Going.{added, agreed, for_first, goes_on, looked, sees_on, tokens_on}
 
 pub begins_keeps : (old new : OwnerValue) (s : ℕ) (how : Cancelling) → Begins old new s (Ok how) → KeepsTasks old new

@@ -1,36 +1,13 @@
 -- What the close of a request's scope leaves: the scope is closed, and its actor's innermost scope is the one that it
 -- was before the request.
-use Rattle.std.proofs.Common.{◌≡◌, ℕ, ◌+◌, ◌<◌, Bool, true, Some, None, length, List, [], ◌∷◌, ◌++◌, map, refl, sym, ap, ◌∙◌, subst, arith, append_assoc}
-use Rattle.std.proofs.lemmas.List.{map-append}
-use Rattle.scope_rules.specs.declared.types.capacity.Limits.{Limits}
-use Rattle.scope_rules.specs.declared.types.events.Event.{Event}
-use Rattle.scope_rules.specs.declared.types.events.Event.TheVariants.{Open, EndClose}
-use Rattle.scope_rules.specs.declared.types.events.Options.{Options}
-use Rattle.scope_rules.specs.declared.types.joiners.Policy.{Policy}
-use Rattle.scope_rules.specs.History.{History, followed, opening, scopes}
-use Rattle.scope_rules.specs.Scopes.{closed, innermost}
-use Rattle.scope_rules.specs.Search.{latest}
-use Rattle.scope_rules.specs.Legal.{Accepts, Legal}
-use Rattle.scope_rules.proofs.InnermostEnds.{innermost_ended}
-use Rattle.scope_rules.proofs.InnermostSteps.{next_opening}
-use Rattle.share_ledger.specs.declared.steps.RealmStep.{RealmStep}
-use Rattle.share_ledger.specs.declared.steps.RealmStep.TheVariants.{Happened}
-use Rattle.share_ledger.specs.Steps.{history_of, IsLegal}
-use Rattle.share_ledger.proofs.Histories.{beginning_legal, history-push, legal_history}
-use Rattle.share_ledger.specs.Values.{OwnerValue}
-use Rattle.atomic_table.specs.Seated.{TableId}
-use Rattle.realm_core.specs.Calls.{SeesMore, history_seen}
-use Rattle.realm_core.proofs.Others.{last_passes}
-use Rattle.realm_core.proofs.Unopened.{innermost_still}
-use Rattle.realm_core.specs.Ends.{Ends, end_step, ended}
-use Rattle.realm_core.specs.Waiting.{IsOpenOf}
-use Rattle.realm_core.proofs.EndChains.{closed_now}
-use Rattle.realm_core.proofs.EndSteps.{history_ended}
-use Rattle.quote_gateway.specs.Going.{nests, shapes, GoesOn, IsBeginning, KeepsInnermost, Opens, EndsScope}
-use Rattle.quote_gateway.specs.Requests.{IsOpenedFor, unused}
-use Rattle.quote_gateway.proofs.Going.{FindsEnds, nests_find, shapes_find, walked, open_going, legal_there, history_added, begins_going, begins_on, begins_agreeing, same_actor}
-use Rattle.quote_gateway.proofs.Following.{Follows, follows_same, follows_event, follows_on, before_there, opening_after}
+use Rattle.quote_gateway.specs.{[], ℕ, ◌++◌, ◌<◌, ◌∷◌, ◌≡◌, Accepts, Bool, EndClose, Ends, EndsScope, Event, GoesOn, Happened, History, IsBeginning, IsLegal, IsOpenOf, IsOpenedFor, KeepsInnermost}
+use Rattle.quote_gateway.specs.{Legal, Limits, List, None, Open, Opens, Options, OwnerValue, Policy, RealmStep, SeesMore, Some, TableId, closed, end_step, ended, followed, history_of, history_seen}
+use Rattle.quote_gateway.specs.{innermost, latest, map, nests, opening, scopes, shapes, true, unused}
+use Rattle.quote_gateway.proofs.Words.{◌+◌, ◌∙◌, ap, append_assoc, arith, beginning_legal, closed_now, history-push, history_ended, innermost_ended, innermost_still, last_passes, legal_history}
+use Rattle.quote_gateway.proofs.Words.{length, map-append, next_opening, refl, subst, sym}
 use Rattle.quote_gateway.proofs.Asking.{opened_here, scopes_later}
+use Rattle.quote_gateway.proofs.Following.{Follows, before_there, follows_event, follows_on, follows_same, opening_after}
+use Rattle.quote_gateway.proofs.Going.{FindsEnds, begins_agreeing, begins_going, begins_on, history_added, legal_there, nests_find, open_going, same_actor, shapes_find, walked}
 
 -- if the scope stays open, the history goes on by events
 pub follows_going : (L : Limits) (a s : ℕ) (test : Event → Bool) (old new : List RealmStep) → FindsEnds a test → GoesOn L test old new → IsOpenOf (history_of old) a s → Follows (history_of old) (history_of new)

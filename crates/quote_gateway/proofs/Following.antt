@@ -1,27 +1,8 @@
 -- What a history says that goes on by events, and what it said before.
-use Rattle.std.proofs.Common.{◌≡◌, ℕ, ◌≤◌, ◌||◌, Bool, true, false, Option, Some, None, List, [], ◌∷◌, ◌++◌, map, length, option_map, refl, sym, ap, ◌∙◌, subst, arith, append_assoc, inl, inr}
-use Rattle.std.proofs.lemmas.Bool.{cases_Bool, eq-eqb}
-use Rattle.std.proofs.lemmas.List.{append-nil, take-append-le, take_all}
-use Rattle.std.specs.List.{filter}
-use Rattle.scope_rules.specs.declared.types.capacity.Limits.{Limits}
-use Rattle.scope_rules.specs.declared.types.events.Event.{Event}
-use Rattle.scope_rules.specs.declared.types.outcomes.Outcome.{Outcome}
-use Rattle.scope_rules.specs.declared.types.records.Forking.{Forking}
-use Rattle.scope_rules.specs.declared.types.records.Opening.{Opening}
-use Rattle.scope_rules.specs.Ends.{LabelValue}
-use Rattle.scope_rules.specs.Answers.{entry_in, listing_by}
-use Rattle.scope_rules.specs.History.{History, before, followed, opening, forking, task_numbers}
-use Rattle.scope_rules.specs.Completions.{is_task_of}
-use Rattle.scope_rules.specs.Nests.{tasks_of, label}
-use Rattle.scope_rules.specs.Outcomes.{joining, outcome, outcome_of}
-use Rattle.scope_rules.specs.Tasks.{state, rejected, rejects}
-use Rattle.scope_rules.specs.Legal.{Legal}
-use Rattle.scope_rules.proofs.Answered.{joining_inside, joining_stays, outcome_stays}
-use Rattle.scope_rules.proofs.Forkings.{task_there}
-use Rattle.scope_rules.proofs.Growing.{opening_stays, forking_stays}
-use Rattle.scope_rules.proofs.OneEventMore.{later, rejected_grows}
-use Rattle.scope_rules.proofs.Openings.{and_then_some}
-use Rattle.scope_index.proofs.AtJoin.{like_at_join}
+use Rattle.quote_gateway.specs.{[], ℕ, ◌++◌, ◌∷◌, ◌≡◌, ◌≤◌, Bool, Event, Forking, History, LabelValue, Legal, Limits, List, None, Opening, Option, Outcome, Some, before, entry_in, false, filter}
+use Rattle.quote_gateway.specs.{followed, forking, is_task_of, joining, label, listing_by, map, opening, outcome, outcome_of, rejected, rejects, state, task_numbers, tasks_of, true}
+use Rattle.quote_gateway.proofs.Words.{◌||◌, ◌∙◌, and_then_some, ap, append-nil, append_assoc, arith, cases_Bool, eq-eqb, forking_stays, inl, inr, joining_inside, joining_stays, later, length}
+use Rattle.quote_gateway.proofs.Words.{like_at_join, opening_stays, option_map, outcome_stays, refl, rejected_grows, subst, sym, take-append-le, take_all, task_there}
 
 -- h begins as g did, with the events of g, and goes on
 pub record Follows (g h : History) : Type 0 where

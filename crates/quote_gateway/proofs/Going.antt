@@ -1,46 +1,21 @@
 -- How lists of steps go on one after the other, and what stays so if an actor's scope is open.
-use Rattle.std.proofs.Common.{◌≡◌, ℕ, ◌||◌, Bool, true, false, Some, List, [], ◌∷◌, ◌++◌, refl, sym, ap, ◌∙◌, subst, append_assoc}
-use Rattle.std.proofs.lemmas.Bool.{both_ways, eq-eqb, or_from, false_from_ne_true}
-use Rattle.std.proofs.lemmas.List.{append-nil}
-use Rattle.std.proofs.lemmas.List.Folds.{list_any-append}
-use Rattle.std.specs.List.{list_any}
-use Rattle.scope_rules.specs.declared.types.capacity.Limits.{Limits}
-use Rattle.scope_rules.specs.declared.types.events.Event.{Event}
-use Rattle.scope_rules.specs.declared.types.events.Event.TheVariants.{Open, Fork, EndClose}
-use Rattle.scope_rules.specs.declared.types.records.Opening.{Opening}
-use Rattle.scope_rules.specs.History.{History, followed}
-use Rattle.scope_rules.specs.Scopes.{closed, ends}
-use Rattle.scope_rules.specs.Legal.{Accepts, Legal}
-use Rattle.scope_rules.proofs.ClosingScopes.{nothing_open}
-use Rattle.scope_rules.proofs.Growing.{opening_stays}
-use Rattle.scope_rules.proofs.OneEventMore.{closed_grows}
-use Rattle.scope_rules.proofs.PassedRows.{ender_passed}
-use Rattle.share_ledger.specs.declared.steps.RealmStep.{RealmStep}
-use Rattle.share_ledger.specs.declared.steps.RealmStep.TheVariants.{Happened, Asked, Retirement}
-use Rattle.share_ledger.specs.declared.steps.Ask.{Ask}
-use Rattle.share_ledger.specs.declared.steps.Ask.TheVariants as ask
-use Rattle.share_ledger.specs.declared.steps.Holder.TheVariants.{TokenOf}
-use Rattle.share_ledger.specs.Holders.{is_own, Agrees, Looks, Adds}
-use Rattle.share_ledger.specs.Steps.{advance, advanced, asked, fresh, history_of, Passes, LegalFrom, IsLegal}
-use Rattle.share_ledger.specs.Tickets.{is_event}
-use Rattle.share_ledger.proofs.Histories.{advanced-append, history-push, legal_advance, legal_beginning, legal_history, beginning_legal, retired_without_scopes}
-use Rattle.share_ledger.proofs.Lists.{none_narrower}
-use Rattle.share_ledger.specs.Values.{OwnerValue}
-use Rattle.realm_core.specs.Calls.{SeesMore}
-use Rattle.realm_core.specs.Waiting.{IsOpenOf}
-use Rattle.quote_gateway.specs.Going.{IsBeginning, nests, shapes, GoesOn}
+use Rattle.quote_gateway.specs.{[], ℕ, ◌++◌, ◌∷◌, ◌≡◌, Accepts, Adds, Agrees, Ask, Asked, Bool, EndClose, Event, Fork, GoesOn, Happened, History, IsBeginning, IsLegal, IsOpenOf, Legal, LegalFrom}
+use Rattle.quote_gateway.specs.{Limits, List, Looks, Open, Opening, OwnerValue, Passes, RealmStep, Retirement, SeesMore, Some, TokenOf, advance, advanced, asked, closed, ends, false, followed, fresh}
+use Rattle.quote_gateway.specs.{history_of, is_event, is_own, list_any, nests, shapes, true}
+use Rattle.quote_gateway.proofs.Words.{◌||◌, ◌∙◌, advanced-append, ap, append-nil, append_assoc, beginning_legal, both_ways, closed_grows, ender_passed, eq-eqb, false_from_ne_true, history-push}
+use Rattle.quote_gateway.proofs.Words.{legal_advance, legal_beginning, legal_history, list_any-append, none_narrower, nothing_open, opening_stays, or_from, refl, retired_without_scopes, subst, sym}
 
 -- ---- whose such steps are
 
 asks_none : (a : ℕ) (q : Ask) → shapes a (asked q) ≡ false
-asks_none a (ask.Cancel scope) = refl
-asks_none a (ask.Move scope deadline) = refl
-asks_none a (ask.Tick now) = refl
+asks_none a (Ask.Cancel scope) = refl
+asks_none a (Ask.Move scope deadline) = refl
+asks_none a (Ask.Tick now) = refl
 
 asks_no_nest : (a : ℕ) (q : Ask) → nests a (asked q) ≡ false
-asks_no_nest a (ask.Cancel scope) = refl
-asks_no_nest a (ask.Move scope deadline) = refl
-asks_no_nest a (ask.Tick now) = refl
+asks_no_nest a (Ask.Cancel scope) = refl
+asks_no_nest a (Ask.Move scope deadline) = refl
+asks_no_nest a (Ask.Tick now) = refl
 
 own_shape : (a : ℕ) (x : RealmStep) → is_event (shapes a) x ≡ true → is_own (TokenOf a) x ≡ true
 own_shape a (Happened (Open actor policy options)) so = so

@@ -9,3 +9,4 @@ pub mod Closing
 pub mod Requested
 pub mod Telling
 pub mod Timed
+mod Words

@@ -1,7 +1,6 @@
 -- The labels of a plan's offers, one by one.
-use Rattle.std.proofs.Common.{◌≡◌, ℕ, zero, suc, ◌+◌, ◌≤◌, List, [], ◌∷◌, ◌++◌, length, map, take, slice_get, Some, None, refl, ap, add-one}
-use Rattle.std.proofs.lemmas.List.{take_all}
-use Rattle.quote_plan.specs.Plans.{Named, label_of}
+use Rattle.quote_gateway.specs.{[], ℕ, ◌++◌, ◌∷◌, ◌≡◌, ◌≤◌, List, Named, None, Some, label_of, map}
+use Rattle.quote_gateway.proofs.Words.{◌+◌, add-one, ap, length, refl, slice_get, suc, take, take_all, zero}
 
 one_more : (offers : List Named) (i : ℕ) (named : Named) → slice_get offers i ≡ Some named → map label_of (take (suc i) offers) ≡ map label_of (take i offers) ++ label_of named ∷ []
 one_more [] i named at = absurd cc

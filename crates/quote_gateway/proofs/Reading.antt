@@ -1,34 +1,10 @@
 -- How the states of a request's tasks are read, once its scope is joined.
-use Rattle.std.proofs.Common.{◌≡◌, ℕ, ◌+◌, ◌<◌, Bool, true, false, if◌then◌else◌, Some, Ok, Err, Result, List, [], ◌∷◌, ◌++◌, length, take, sym, ap, ◌∙◌, subst}
-use Rattle.std.specs.Prelude.{slice_index_or}
-use Rattle.std.proofs.lemmas.List.{map-append, take-map, take_more}
-use Rattle.std.proofs.lemmas.List.Elements.{filter_passes}
-use Rattle.scope_rules.specs.declared.types.answers.State.{State}
-use Rattle.scope_rules.specs.declared.types.outcomes.Outcome.{Outcome}
-use Rattle.scope_rules.specs.declared.types.outcomes.TaskState.{TaskState}
-use Rattle.scope_rules.specs.declared.types.refusals.Refusal.{Refusal}
-use Rattle.scope_rules.specs.Answers.{entry_in, listing_by}
-use Rattle.scope_rules.specs.Checks.{Checked, task_check}
-use Rattle.scope_rules.specs.Completions.{is_task_of}
-use Rattle.scope_rules.specs.Ends.{LabelValue}
-use Rattle.scope_rules.specs.History.{History, task_numbers}
-use Rattle.scope_rules.specs.Nests.{tasks_of}
-use Rattle.scope_rules.specs.Outcomes.{outcome}
-use Rattle.scope_rules.specs.Table.{answering}
-use Rattle.scope_rules.specs.Tasks.{state}
-use Rattle.scope_rules.proofs.Forkings.{task_there}
-use Rattle.scope_checks.proofs.Checked.{task_passes}
-use Rattle.share_ledger.proofs.Histories.{legal_history}
-use Rattle.share_ledger.specs.Values.{OwnerValue}
-use Rattle.realm_core.specs.Calls.{Looked, SeesMore, history_seen}
-use Rattle.realm_core.specs.Views.{Joins}
-use Rattle.realm_core.specs.declared.joins.Joined.{Joined}
-use Rattle.quote_gateway.specs.Going.{shapes, HasForked, HasJoined, IsOpenHere, IsTaskHere, KeepsTasks}
-use Rattle.quote_gateway.proofs.Going.{looked, shapes_find}
+use Rattle.quote_gateway.specs.{[], ℕ, ◌++◌, ◌<◌, ◌∷◌, ◌≡◌, Bool, Checked, Err, HasForked, HasJoined, History, IsOpenHere, IsTaskHere, Joined, Joins, KeepsTasks, LabelValue, List, Looked, Outcome}
+use Rattle.quote_gateway.specs.{OwnerValue, Refusal, Result, SeesMore, Some, State, TaskState, answering, entry_in, false, history_seen, is_task_of, listing_by, outcome, shapes, slice_index_or, state}
+use Rattle.quote_gateway.specs.{task_check, task_numbers, tasks_of, true}
+use Rattle.quote_gateway.proofs.Words.{◌+◌, ◌∙◌, Ok, ap, filter_passes, if◌then◌else◌, legal_history, length, map-append, subst, sym, take, take-map, take_more, task_passes, task_there}
 use Rattle.quote_gateway.proofs.Following.{Follows, listing_joined, outcome_after, task_after, tasks_joined}
-use Rattle.quote_gateway.proofs.Asking.{forked_still, here_still}
-use Rattle.quote_gateway.proofs.Ending.{follows_going}
-use Rattle.quote_gateway.proofs.Turned.{join_keeps}
+use Rattle.quote_gateway.proofs.{Asking.forked_still, Asking.here_still, Ending.follows_going, Going.looked, Going.shapes_find, Turned.join_keeps}
 
 -- which of two it is
 pub chosen : {A : Type 0} (b : Bool) (new one other : A) → new ≡ (if b then one else other) → b ≡ true → new ≡ one

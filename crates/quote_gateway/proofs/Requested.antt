@@ -1,29 +1,12 @@
 -- What a request comes to, from the open of its scope to the end of its close.
-use Rattle.std.proofs.Common.{◌≡◌, ℕ, Some, Ok, Err, Result, List, [], ◌∷◌, ◌++◌, map, MatchResult, refl, sym, ap, ◌∙◌, subst, inl, inr}
-use Rattle.scope_rules.specs.declared.types.events.Event.TheVariants.{Open, Fork}
-use Rattle.scope_rules.specs.declared.types.events.Options.{Options}
-use Rattle.scope_rules.specs.declared.types.outcomes.Outcome.{Outcome}
-use Rattle.scope_rules.specs.declared.types.outcomes.TaskState.{TaskState}
-use Rattle.scope_rules.specs.Answers.{listing_by}
-use Rattle.scope_rules.specs.Nests.{tasks_of, label}
-use Rattle.scope_rules.specs.Outcomes.{outcome}
-use Rattle.scope_rules.specs.Tasks.{state}
-use Rattle.share_ledger.specs.declared.steps.RealmStep.TheVariants.{Happened}
-use Rattle.share_ledger.specs.Steps.{history_of}
-use Rattle.share_ledger.specs.Values.{OwnerValue}
-use Rattle.realm_core.specs.Calls.{SeesMore, history_seen, step_check}
-use Rattle.realm_core.specs.Ends.{end_step}
-use Rattle.quote_plan.specs.Plans.{PlanValue, labels_of, policy_of}
-use Rattle.quote_plan.specs.Answering.{Answers}
-use Rattle.quote_plan.specs.declared.answers.Answer.{Answer}
-use Rattle.quote_gateway.specs.declared.faults.GatewayFault.{GatewayFault}
-use Rattle.quote_gateway.specs.declared.faults.GatewayFault.TheVariants as fault
-use Rattle.quote_gateway.specs.Going.{nests, shapes, GoesOn, IsBeginning, KeepsScopes, KeepsInnermost, Opens, OpensNone, EndsScope, HasForked, HasRejected, IsTurnedDown, ForkTurnedDown}
-use Rattle.quote_gateway.specs.Requests.{Fails, FindsNone, IsFound, IsRejectedIn, IsScopeFor, IsStepIn, MakesAnswer, MakesNone, NoneRests, RestsOn, WasCancelled, WasRefused, WasRejected, WasServed}
-use Rattle.quote_gateway.proofs.Going.{begins_going, begins_on, begins_agreeing, for_first, same_actor, sees_on}
-use Rattle.quote_gateway.proofs.Following.{labels_after, listing_joined, label_after, outcome_after, rejected_after, task_after, tasks_joined}
-use Rattle.quote_gateway.proofs.Turned.{refused_earlier}
+use Rattle.quote_gateway.specs.{[], ℕ, ◌++◌, ◌∷◌, ◌≡◌, Answer, Answers, EndsScope, Err, Fails, FindsNone, Fork, ForkTurnedDown, GatewayFault, GoesOn, Happened, HasForked, HasRejected, IsBeginning}
+use Rattle.quote_gateway.specs.{IsFound, IsRejectedIn, IsScopeFor, IsStepIn, IsTurnedDown, KeepsInnermost, KeepsScopes, List, MakesAnswer, MakesNone, MatchResult, NoneRests, Open, Opens, OpensNone}
+use Rattle.quote_gateway.specs.{Options, Outcome, OwnerValue, PlanValue, RestsOn, Result, SeesMore, Some, TaskState, WasCancelled, WasRefused, WasRejected, WasServed, end_step, history_of}
+use Rattle.quote_gateway.specs.{history_seen, label, labels_of, listing_by, map, nests, outcome, policy_of, shapes, state, step_check, tasks_of}
+use Rattle.quote_gateway.proofs.Words.{◌∙◌, Ok, ap, inl, inr, refl, subst, sym}
 use Rattle.quote_gateway.proofs.Ending.{begins_over, follows_over, innermost_over, is_over, legal_before, legal_over, opened_over, opened_since}
+use Rattle.quote_gateway.proofs.Following.{label_after, labels_after, listing_joined, outcome_after, rejected_after, task_after, tasks_joined}
+use Rattle.quote_gateway.proofs.{Going.begins_agreeing, Going.begins_going, Going.begins_on, Going.for_first, Going.same_actor, Going.sees_on, Turned.refused_earlier}
 
 -- ---- what is found after the join
 
@@ -42,21 +25,21 @@ found_in t plan s tasks states o forked joined read Holds holds =
 pub by_join : (old t : OwnerValue) (plan : PlanValue) (Expired : Type 0) (s : ℕ) (tasks : List ℕ) (states : List TaskState) (o : Outcome) (result : Result Answer GatewayFault) → HasForked t s (labels_of plan) tasks → outcome (history_seen t) s ≡ Some o → states ≡ listing_by (state (history_seen t)) tasks
     → MatchResult result (λ a. Answers plan.mode plan.offers states o a) (MakesNone plan Expired states o) → MatchResult result (λ a. IsFound (history_seen t) plan s (MakesAnswer plan a)) (FindsNone old t plan s Expired)
 by_join old t plan Expired s tasks states o (Ok a) forked joined read rests = found_in t plan s tasks states o forked joined read (MakesAnswer plan a) rests
-by_join old t plan Expired s tasks states o (Err fault.Lost) forked joined read none = found_in t plan s tasks states o forked joined read (NoneRests plan) none
-by_join old t plan Expired s tasks states o (Err fault.Cancelled) forked joined read none = found_in t plan s tasks states o forked joined read (λ ts p. WasCancelled Expired p) none
-by_join old t plan Expired s tasks states o (Err fault.Memory) forked joined read none = tt
-by_join old t plan Expired s tasks states o (Err fault.Rejected) forked joined read none = absurd none
-by_join old t plan Expired s tasks states o (Err fault.Strange) forked joined read none = absurd none
+by_join old t plan Expired s tasks states o (Err GatewayFault.Lost) forked joined read none = found_in t plan s tasks states o forked joined read (NoneRests plan) none
+by_join old t plan Expired s tasks states o (Err GatewayFault.Cancelled) forked joined read none = found_in t plan s tasks states o forked joined read (λ ts p. WasCancelled Expired p) none
+by_join old t plan Expired s tasks states o (Err GatewayFault.Memory) forked joined read none = tt
+by_join old t plan Expired s tasks states o (Err GatewayFault.Rejected) forked joined read none = absurd none
+by_join old t plan Expired s tasks states o (Err GatewayFault.Strange) forked joined read none = absurd none
 
 -- ---- why nothing is found
 
 -- a call was refused
 pub turned_none : (old new : OwnerValue) (plan : PlanValue) (s : ℕ) (Expired : Type 0) (why : GatewayFault) → IsTurnedDown (IsRejectedIn old new plan s) why → FindsNone old new plan s Expired why
-turned_none old new plan s Expired fault.Memory it = it
-turned_none old new plan s Expired fault.Rejected it = it
-turned_none old new plan s Expired fault.Lost it = absurd it
-turned_none old new plan s Expired fault.Cancelled it = absurd it
-turned_none old new plan s Expired fault.Strange it = absurd it
+turned_none old new plan s Expired GatewayFault.Memory it = it
+turned_none old new plan s Expired GatewayFault.Rejected it = it
+turned_none old new plan s Expired GatewayFault.Lost it = absurd it
+turned_none old new plan s Expired GatewayFault.Cancelled it = absurd it
+turned_none old new plan s Expired GatewayFault.Strange it = absurd it
 
 -- a fork was refused of one of the plan's jobs
 fork_none_by : (old new : OwnerValue) (plan : PlanValue) (s : ℕ) → SeesMore old new → ForkTurnedDown old new s (labels_of plan) → IsRejectedIn old new plan s
@@ -66,25 +49,25 @@ fork_none_by old new plan s same it = elim it [
 ]
 
 pub fork_none : (old new : OwnerValue) (plan : PlanValue) (s : ℕ) (Expired : Type 0) (why : GatewayFault) → SeesMore old new → IsTurnedDown (ForkTurnedDown old new s (labels_of plan)) why → FindsNone old new plan s Expired why
-fork_none old new plan s Expired fault.Memory same it = it
-fork_none old new plan s Expired fault.Rejected same it = fork_none_by old new plan s same it
-fork_none old new plan s Expired fault.Lost same it = absurd it
-fork_none old new plan s Expired fault.Cancelled same it = absurd it
-fork_none old new plan s Expired fault.Strange same it = absurd it
+fork_none old new plan s Expired GatewayFault.Memory same it = it
+fork_none old new plan s Expired GatewayFault.Rejected same it = fork_none_by old new plan s same it
+fork_none old new plan s Expired GatewayFault.Lost same it = absurd it
+fork_none old new plan s Expired GatewayFault.Cancelled same it = absurd it
+fork_none old new plan s Expired GatewayFault.Strange same it = absurd it
 
 -- what was found of a later beginning is found of an earlier one; the time is said to be out in other words
 pub none_earlier : (old mid new : OwnerValue) (plan : PlanValue) (s : ℕ) (Expired Past : Type 0) (why : GatewayFault) → IsBeginning old.seen mid.seen → (Past → Expired) → FindsNone mid new plan s Expired why → FindsNone old new plan s Past why
-none_earlier old mid new plan s Expired Past fault.Lost begins back none = none
-none_earlier old mid new plan s Expired Past fault.Cancelled begins back none = record {
+none_earlier old mid new plan s Expired Past GatewayFault.Lost begins back none = none
+none_earlier old mid new plan s Expired Past GatewayFault.Cancelled begins back none = record {
   asked = none.asked;
   came = none.came;
   joined = none.joined;
   holds = elim none.holds [ inl is ↦ inl is | inr is ↦ inr (is.0, λ past. is.1 (back past)) ];
 }
-none_earlier old mid new plan s Expired Past fault.Memory begins back none = none
-none_earlier old mid new plan s Expired Past fault.Rejected begins back none =
+none_earlier old mid new plan s Expired Past GatewayFault.Memory begins back none = none
+none_earlier old mid new plan s Expired Past GatewayFault.Rejected begins back none =
     elim none [ inl by ↦ inl (record { step = by.step; of = by.of; refused = refused_earlier old mid new by.step begins by.refused }) | inr never ↦ inr never ]
-none_earlier old mid new plan s Expired Past fault.Strange begins back none = none
+none_earlier old mid new plan s Expired Past GatewayFault.Strange begins back none = none
 
 pub found_earlier : (old mid new : OwnerValue) (plan : PlanValue) (s : ℕ) (Expired Past : Type 0) (result : Result Answer GatewayFault) → IsBeginning old.seen mid.seen → (Past → Expired)
     → MatchResult result (λ a. IsFound (history_seen new) plan s (MakesAnswer plan a)) (FindsNone mid new plan s Expired) → MatchResult result (λ a. IsFound (history_seen new) plan s (MakesAnswer plan a)) (FindsNone old new plan s Past)
@@ -95,11 +78,11 @@ found_earlier old mid new plan s Expired Past (Err why) begins back it = none_ea
 
 -- the scope could not be opened
 pub not_opened : (old new : OwnerValue) (plan : PlanValue) (options : Options) (Expired : Type 0) (why : GatewayFault) → OpensNone old new (policy_of plan.mode) options why → Fails old new plan options Expired why
-not_opened old new plan options Expired fault.Memory it = it.cause
-not_opened old new plan options Expired fault.Rejected it = inl it.cause
-not_opened old new plan options Expired fault.Lost it = absurd it.cause
-not_opened old new plan options Expired fault.Cancelled it = absurd it.cause
-not_opened old new plan options Expired fault.Strange it = absurd it.cause
+not_opened old new plan options Expired GatewayFault.Memory it = it.cause
+not_opened old new plan options Expired GatewayFault.Rejected it = inl it.cause
+not_opened old new plan options Expired GatewayFault.Lost it = absurd it.cause
+not_opened old new plan options Expired GatewayFault.Cancelled it = absurd it.cause
+not_opened old new plan options Expired GatewayFault.Strange it = absurd it.cause
 
 module _ (old one four new : OwnerValue) (plan : PlanValue) (options : Options) (s : ℕ) (first : SeesMore old one) (opens : Opens old one (policy_of plan.mode) options s) (second : SeesMore one four) (keeps : KeepsScopes one four) (third : SeesMore four new) (ends : EndsScope four new s) where
   four_is : SeesMore old four
@@ -194,8 +177,8 @@ module _ (old one four new : OwnerValue) (plan : PlanValue) (options : Options) 
   -- what was found in the scope is what the request comes to
   pub served : (Expired : Type 0) (result : Result Answer GatewayFault) → MatchResult result (λ a. IsFound (history_seen four) plan s (MakesAnswer plan a)) (FindsNone one four plan s Expired) → MatchResult result (RestsOn old new plan options) (Fails old new plan options Expired)
   served Expired (Ok a) it = served_so (MakesAnswer plan a) it
-  served Expired (Err fault.Lost) it = served_so (NoneRests plan) it
-  served Expired (Err fault.Cancelled) it = served_so (λ ts o. WasCancelled Expired o) it
-  served Expired (Err fault.Memory) it = it
-  served Expired (Err fault.Rejected) it = inr (turned_over it)
-  served Expired (Err fault.Strange) it = it
+  served Expired (Err GatewayFault.Lost) it = served_so (NoneRests plan) it
+  served Expired (Err GatewayFault.Cancelled) it = served_so (λ ts o. WasCancelled Expired o) it
+  served Expired (Err GatewayFault.Memory) it = it
+  served Expired (Err GatewayFault.Rejected) it = inr (turned_over it)
+  served Expired (Err GatewayFault.Strange) it = it

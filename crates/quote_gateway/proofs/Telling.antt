@@ -1,26 +1,8 @@
 -- What was told of the moment stays told.
-use Rattle.std.proofs.Common.{◌≡◌, ℕ, ◌≤◌, Option, Some, None, Ok, Err, Result, List, [], ◌∷◌, ◌++◌, refl, ap, ◌∙◌, arith}
-use Rattle.std.specs.Prelude.{IsSome, OnOk}
-use Rattle.std.proofs.lemmas.Bool.{ltb-false}
-use Rattle.scope_rules.specs.declared.types.capacity.Limits.{Limits}
-use Rattle.scope_rules.specs.declared.types.events.Event.{Event}
-use Rattle.scope_rules.specs.declared.types.events.Event.TheVariants.{Tick, EndClose}
-use Rattle.scope_rules.specs.History.{History, followed, moment}
-use Rattle.scope_rules.specs.Table.{row_check}
-use Rattle.scope_rules.specs.Legal.{Accepts}
-use Rattle.scope_rules.proofs.Accepted.{checks_at, not_refused}
-use Rattle.scope_rules.proofs.Timed.{moment_grows}
-use Rattle.share_ledger.specs.declared.steps.Ask.TheVariants as ask
-use Rattle.share_ledger.specs.declared.steps.RealmStep.{RealmStep}
-use Rattle.share_ledger.specs.declared.steps.RealmStep.TheVariants.{Asked}
-use Rattle.share_ledger.specs.Steps.{history_of}
-use Rattle.share_ledger.specs.Values.{OwnerValue}
-use Rattle.realm_core.specs.Calls.{history_seen}
-use Rattle.realm_core.specs.Ends.{ended}
-use Rattle.realm_core.specs.Waiting.{IsOpenOf}
-use Rattle.realm_core.proofs.EndSteps.{history_ended}
-use Rattle.quote_gateway.specs.Going.{shapes, EndsScope, GoesOn, IsOpenHere, KeepsTasks}
-use Rattle.quote_gateway.specs.Requests.{IsTold, Pulsed}
+use Rattle.quote_gateway.specs.{[], ℕ, ◌++◌, ◌∷◌, ◌≡◌, ◌≤◌, Accepts, Ask, Asked, EndClose, EndsScope, Err, Event, GoesOn, History, IsOpenHere, IsOpenOf, IsSome, IsTold, KeepsTasks, Limits, List, None}
+use Rattle.quote_gateway.specs.{OnOk, Option, OwnerValue, Pulsed, RealmStep, Result, Some, ended, followed, history_of, history_seen, moment, row_check, shapes}
+use Rattle.quote_gateway.proofs.Words.{◌∙◌, Ok, ap, arith, checks_at, history_ended, ltb-false, moment_grows, not_refused, refl}
+use Rattle.scope_rules.specs.declared.types.events.Event.TheVariants.{Tick}
 use Rattle.quote_gateway.proofs.Going.{history_added, shapes_find, walked}
 
 -- a tick that is accepted is not back
@@ -52,7 +34,7 @@ pub pulse_told : (old new : OwnerValue) (reading : Option ℕ) (moment_told : �
 pulse_told old new None told read it = absurd cc
 pulse_told old new (Some now) told read it =
     let adds = it.1.adds in
-    tick_told old new now (history_of adds.there) (history_added old.limits old.actor old.seen new.seen (Asked old.actor (ask.Tick now)) adds)
+    tick_told old new now (history_of adds.there) (history_added old.limits old.actor old.seen new.seen (Asked old.actor (Ask.Tick now)) adds)
 
 -- and stays so
 pub told_still : (old new : OwnerValue) (s : ℕ) (reading : Option ℕ) → KeepsTasks old new → IsOpenHere old s → IsTold (history_seen old) reading → IsTold (history_seen new) reading

@@ -1,37 +1,13 @@
 -- What a join by a clock leaves in a request.
-use Rattle.std.proofs.Common.{◌≡◌, inl, inr, ℕ, ◌≤◌, Bool, true, false, nat_lt, Option, Some, None, Ok, Err, Result, List, MatchResult, refl, sym, ap, ◌∙◌, subst, arith}
-use Rattle.std.specs.Prelude.{IsSome}
-use Rattle.std.proofs.lemmas.Bool.{ltb-true}
-use Rattle.scope_rules.specs.declared.types.capacity.Limits.{Limits}
-use Rattle.scope_rules.specs.declared.types.capacity.TheConstants.{STEP_LOAD}
-use Rattle.scope_rules.specs.declared.types.events.Event.TheVariants as event
-use Rattle.scope_rules.specs.declared.types.refusals.Refusal.{Refusal}
-use Rattle.scope_rules.specs.declared.types.refusals.Refusal.TheVariants.{ClockBack, Memory}
-use Rattle.scope_rules.specs.Checks.{checks, then_check}
-use Rattle.scope_rules.specs.Ends.{LabelValue}
-use Rattle.scope_rules.specs.History.{History, moment}
-use Rattle.scope_rules.specs.Load.{over_load}
-use Rattle.scope_rules.specs.Table.{check_of, row_check}
-use Rattle.share_ledger.specs.declared.steps.Ask.TheVariants.{Tick}
-use Rattle.share_ledger.specs.declared.steps.RealmStep.TheVariants.{Asked}
-use Rattle.share_ledger.specs.Steps.{IsLegal, history_of}
-use Rattle.share_ledger.specs.Values.{OwnerValue}
-use Rattle.realm_core.specs.Calls.{SeesMore, history_seen, step_check}
-use Rattle.realm_core.specs.declared.joins.Joined.{Joined}
-use Rattle.realm_lock.specs.Waits.{JoinsBy, JoinsThen, StaysUnclosed, Stopped, StopsClosing, Waited, WaitsToClose, began, looked as has_looked, read, ticked}
-use Rattle.realm_lock.proofs.Waits.{waited_sees}
-use Rattle.quote_plan.specs.Plans.{PlanValue}
-use Rattle.quote_gateway.specs.declared.faults.GatewayFault.{GatewayFault}
-use Rattle.quote_gateway.specs.declared.faults.GatewayFault.TheVariants as fault
-use Rattle.quote_gateway.specs.Going.{shapes, IsOpenHere, IsTurnedDown, HasForked, HasJoined, KeepsTasks}
-use Rattle.quote_gateway.specs.Requests.{FindsNone, IsOfCall, IsRejectedIn, IsStepIn, IsTold, Pulsed}
-use Rattle.quote_gateway.proofs.Going.{added, begins_going, begins_on, goes_nowhere, looked, same_actor, same_limits, tokens_on}
-use Rattle.quote_gateway.proofs.Closing.{begins_keeps, refused_keeps}
+use Rattle.quote_gateway.specs.{ℕ, ◌≡◌, ◌≤◌, Asked, Bool, ClockBack, Err, Event, FindsNone, GatewayFault, HasForked, HasJoined, History, IsLegal, IsOfCall, IsOpenHere, IsRejectedIn, IsSome, IsStepIn}
+use Rattle.quote_gateway.specs.{IsTold, IsTurnedDown, Joined, JoinsBy, JoinsThen, KeepsTasks, LabelValue, Limits, List, MatchResult, Memory, None, Option, OwnerValue, PlanValue, Pulsed, Refusal}
+use Rattle.quote_gateway.specs.{Result, STEP_LOAD, SeesMore, Some, StaysUnclosed, Stopped, StopsClosing, Tick, Waited, WaitsToClose, began, check_of, checks, false, history_of, history_seen}
+use Rattle.quote_gateway.specs.{looked as has_looked, moment, over_load, read, row_check, shapes, step_check, then_check, ticked, true}
+use Rattle.quote_gateway.proofs.Words.{◌∙◌, Ok, ap, arith, inl, inr, ltb-true, nat_lt, refl, subst, sym, waited_sees}
 use Rattle.quote_gateway.proofs.Following.{label_after, rejected_after, task_after}
-use Rattle.quote_gateway.proofs.Asking.{forked_still}
-use Rattle.quote_gateway.proofs.Reading.{follows_still, joined_here}
-use Rattle.quote_gateway.proofs.Requested.{none_earlier, turned_none}
+use Rattle.quote_gateway.proofs.Going.{added, begins_going, begins_on, goes_nowhere, looked, same_actor, same_limits, tokens_on}
 use Rattle.quote_gateway.proofs.Turned.{join_keeps, join_refused, looked_by, refused_or_memory, turned_down}
+use Rattle.quote_gateway.proofs.{Asking.forked_still, Closing.begins_keeps, Closing.refused_keeps, Reading.follows_still, Reading.joined_here, Requested.none_earlier, Requested.turned_none}
 
 module _ {K : Type 0} (reads : K → K → ℕ → Type 0) (old : OwnerValue) (start : K) (lawful : IsLegal old.limits old.seen) where
   -- while it waits, its token's actor opens, closes and forks nothing
@@ -57,7 +33,7 @@ module _ {K : Type 0} (reads : K → K → ℕ → Type 0) (old : OwnerValue) (s
   joined_keeps new last s (Err refusal) it = elim it [ inl then ↦ then_keeps new last s (Err refusal) then | inr stop ↦ stop_keeps new last refusal stop ]
 
   -- if it is refused, nothing is found for that cause
-  pub joined_none : (new : OwnerValue) (last : K) (plan : PlanValue) (s : ℕ) (Expired : Type 0) (refusal : Refusal) (why : GatewayFault) → JoinsBy reads old new start last s (Err refusal) → IsOfCall why → (refusal ≡ Memory → why ≡ fault.Memory) → FindsNone old new plan s Expired why
+  pub joined_none : (new : OwnerValue) (last : K) (plan : PlanValue) (s : ℕ) (Expired : Type 0) (refusal : Refusal) (why : GatewayFault) → JoinsBy reads old new start last s (Err refusal) → IsOfCall why → (refusal ≡ Memory → why ≡ GatewayFault.Memory) → FindsNone old new plan s Expired why
   joined_none new last plan s Expired refusal why it call memory = elim it [
     | inl then ↦
         let begins = begins_going old.limits (shapes old.actor) old.seen then.there.seen (waited_keeps then.there last then.waited) in
@@ -127,24 +103,24 @@ module _ (old mid new : OwnerValue) (plan : PlanValue) (s : ℕ) (same : SeesMor
   ]
 
   pub none_later : (Expired Past : Type 0) (why : GatewayFault) → IsOfCall why → FindsNone old mid plan s Expired why → FindsNone old new plan s Past why
-  none_later Expired Past fault.Memory call it = it
-  none_later Expired Past fault.Rejected call it = rejected_later it
-  none_later Expired Past fault.Lost call it = absurd call
-  none_later Expired Past fault.Cancelled call it = absurd call
-  none_later Expired Past fault.Strange call it = absurd call
+  none_later Expired Past GatewayFault.Memory call it = it
+  none_later Expired Past GatewayFault.Rejected call it = rejected_later it
+  none_later Expired Past GatewayFault.Lost call it = absurd call
+  none_later Expired Past GatewayFault.Cancelled call it = absurd call
+  none_later Expired Past GatewayFault.Strange call it = absurd call
 
 -- only a call is turned down
 pub turned_call : (Why : Type 0) (why : GatewayFault) → IsTurnedDown Why why → IsOfCall why
-turned_call Why fault.Memory it = it
-turned_call Why fault.Rejected it = tt
-turned_call Why fault.Lost it = it
-turned_call Why fault.Cancelled it = it
-turned_call Why fault.Strange it = it
+turned_call Why GatewayFault.Memory it = it
+turned_call Why GatewayFault.Rejected it = tt
+turned_call Why GatewayFault.Lost it = it
+turned_call Why GatewayFault.Cancelled it = it
+turned_call Why GatewayFault.Strange it = it
 
 -- ---- what is told
 
 -- a tick is refused as back only if the moment has come further
-back : (L : Limits) (h : History) (now : ℕ) → check_of L h (event.Tick now) ≡ Err ClockBack → now ≤ moment h
+back : (L : Limits) (h : History) (now : ℕ) → check_of L h (Event.Tick now) ≡ Err ClockBack → now ≤ moment h
 unfolding row_check checks then_check
 back L h now is = by (nat_lt now (moment h)) refl (over_load L h STEP_LOAD) refl
   where

@@ -1,42 +1,19 @@
 -- What a call leaves that was refused while a request was served, and why it was.
-use Rattle.std.proofs.Common.{◌≡◌, ◌⊎◌, ℕ, Ok, Err, Result, List, [], ◌∷◌, ◌++◌, refl, sym, ap, ◌∙◌, subst, inl, inr, append_assoc}
-use Rattle.std.specs.Prelude.{Some, Option, None, IsSome}
-use Rattle.scope_rules.specs.declared.types.answers.ForkReply.{ForkReply}
-use Rattle.scope_rules.specs.declared.types.answers.ForkReply.TheVariants.{Thread}
-use Rattle.scope_rules.specs.declared.types.events.Event.TheVariants.{Open, Fork, Join, Reject}
-use Rattle.scope_rules.specs.declared.types.events.Options.{Options}
-use Rattle.scope_rules.specs.declared.types.joiners.Policy.{Policy}
-use Rattle.scope_rules.specs.declared.types.refusals.Refusal.{Refusal}
-use Rattle.scope_rules.specs.declared.types.refusals.Refusal.TheVariants.{Memory}
-use Rattle.scope_rules.specs.Ends.{LabelValue}
-use Rattle.scope_rules.specs.Replies.{next_scope}
-use Rattle.share_ledger.specs.declared.steps.Ask.TheVariants.{Tick}
-use Rattle.share_ledger.specs.declared.steps.RealmStep.{RealmStep}
-use Rattle.share_ledger.specs.declared.steps.RealmStep.TheVariants.{Happened, Asked}
-use Rattle.share_ledger.specs.Values.{OwnerValue}
-use Rattle.realm_core.specs.Calls.{Refused, OutOfMemory, DidOrMemory, SeesMore, HasLooked, history_seen, step_check}
-use Rattle.realm_core.specs.Views.{Joins}
-use Rattle.realm_core.specs.declared.joins.Joined.{Joined}
-use Rattle.job_runner.specs.Forks.{ForkWhy, Before, Rejected, ForksJob, ForksRejected, refusal_of}
-use Rattle.job_runner.specs.Rooms.{DoesInRoom}
-use Rattle.job_runner.proofs.Ended.{found_before}
-use Rattle.quote_plan.specs.Plans.{PlanValue}
-use Rattle.quote_gateway.specs.declared.faults.GatewayFault.{GatewayFault}
-use Rattle.quote_gateway.specs.declared.faults.GatewayFault.TheVariants as fault
-use Rattle.quote_gateway.specs.Going.{nests, KeepsScopes, KeepsTasks, KeepsInnermost, IsBeginning, IsOpenHere, IsRefusedAt, IsTurnedDown, IsOneOf, HasRejected, ForkedAs, ForkTurnedDown, OpensNone}
-use Rattle.quote_gateway.specs.Requests.{IsOfCall, IsRejectedIn, Pulsed}
+use Rattle.quote_gateway.specs.{[], ℕ, ◌++◌, ◌∷◌, ◌≡◌, ◌⊎◌, Asked, Before, DidOrMemory, DoesInRoom, Err, Fork, ForkReply, ForkTurnedDown, ForkWhy, ForkedAs, ForksJob, ForksRejected, GatewayFault}
+use Rattle.quote_gateway.specs.{Happened, HasLooked, HasRejected, IsBeginning, IsOfCall, IsOneOf, IsOpenHere, IsRefusedAt, IsRejectedIn, IsSome, IsTurnedDown, Join, Joined, Joins, KeepsInnermost}
+use Rattle.quote_gateway.specs.{KeepsScopes, KeepsTasks, LabelValue, List, Memory, None, Open, OpensNone, Option, Options, OutOfMemory, OwnerValue, PlanValue, Policy, Pulsed, RealmStep, Refusal}
+use Rattle.quote_gateway.specs.{Refused, Reject, Rejected, Result, SeesMore, Some, Thread, Tick, history_seen, nests, next_scope, refusal_of, step_check}
+use Rattle.quote_gateway.proofs.Words.{◌∙◌, Ok, ap, append_assoc, found_before, inl, inr, refl, subst, sym}
 use Rattle.quote_gateway.proofs.Going.{added, added_inside, begins_agreeing, begins_on, begins_same, goes_nowhere, looked, nests_find, same_actor, scopes_kept, tokens_on}
-use Rattle.quote_gateway.proofs.Following.{task_after, label_after}
-use Rattle.quote_gateway.proofs.Asking.{forked_task, here_inside, rejected_last}
-use Rattle.quote_gateway.proofs.Ending.{follows_going}
+use Rattle.quote_gateway.proofs.{Asking.forked_task, Asking.here_inside, Asking.rejected_last, Ending.follows_going, Following.label_after, Following.task_after}
 
 -- a call was refused: it was memory, or there is another cause
-pub turned_down : (Why : Type 0) (refusal : Refusal) (why : GatewayFault) → IsOfCall why → (refusal ≡ Memory → why ≡ fault.Memory) → ((refusal ≡ Memory → ⊥) → Why) → IsTurnedDown Why why
-turned_down Why refusal fault.Memory call memory cause = tt
-turned_down Why refusal fault.Rejected call memory cause = cause (λ m. absurd (cc (memory m)))
-turned_down Why refusal fault.Strange call memory cause = absurd call
-turned_down Why refusal fault.Cancelled call memory cause = absurd call
-turned_down Why refusal fault.Lost call memory cause = absurd call
+pub turned_down : (Why : Type 0) (refusal : Refusal) (why : GatewayFault) → IsOfCall why → (refusal ≡ Memory → why ≡ GatewayFault.Memory) → ((refusal ≡ Memory → ⊥) → Why) → IsTurnedDown Why why
+turned_down Why refusal GatewayFault.Memory call memory cause = tt
+turned_down Why refusal GatewayFault.Rejected call memory cause = cause (λ m. absurd (cc (memory m)))
+turned_down Why refusal GatewayFault.Strange call memory cause = absurd call
+turned_down Why refusal GatewayFault.Cancelled call memory cause = absurd call
+turned_down Why refusal GatewayFault.Lost call memory cause = absurd call
 
 -- the rules refused the step
 pub refused_at : (old new : OwnerValue) (x : RealmStep) (refusal : Refusal) → SeesMore old new → Refused old new x refusal → (refusal ≡ Memory → ⊥) → IsRefusedAt old new x
@@ -68,7 +45,7 @@ refused_earlier old mid new x begins it = record {
 
 -- ---- the open
 
-pub opens_none : (old new : OwnerValue) (policy : Policy) (options : Options) (refusal : Refusal) (why : GatewayFault) → DoesInRoom old new (Happened (Open old.actor policy options)) next_scope (Err refusal) → IsOfCall why → (refusal ≡ Memory → why ≡ fault.Memory) → OpensNone old new policy options why
+pub opens_none : (old new : OwnerValue) (policy : Policy) (options : Options) (refusal : Refusal) (why : GatewayFault) → DoesInRoom old new (Happened (Open old.actor policy options)) next_scope (Err refusal) → IsOfCall why → (refusal ≡ Memory → why ≡ GatewayFault.Memory) → OpensNone old new policy options why
 opens_none old new policy options refusal why it call memory =
     let x = Happened (Open old.actor policy options) in
     elim it [
@@ -131,7 +108,7 @@ rejected_there old new s its task here it =
       never = rejected_last mid new task it.rejected;
     }
 
-pub fork_refused : (old new : OwnerValue) (s : ℕ) (its : LabelValue) (refused : ForkWhy) (why : GatewayFault) → IsOpenHere old s → ForksJob old new s its (Err refused) → IsOfCall why → (refusal_of refused ≡ Memory → why ≡ fault.Memory) → IsTurnedDown (ForkTurnedDown old new s (its ∷ [])) why
+pub fork_refused : (old new : OwnerValue) (s : ℕ) (its : LabelValue) (refused : ForkWhy) (why : GatewayFault) → IsOpenHere old s → ForksJob old new s its (Err refused) → IsOfCall why → (refusal_of refused ≡ Memory → why ≡ GatewayFault.Memory) → IsTurnedDown (ForkTurnedDown old new s (its ∷ [])) why
 fork_refused old new s its (Before refusal) why here it call memory =
     turned_down _ refusal why call memory (λ other. elim it [
       | inl did ↦ inl (its, one_of_one its, refused_or_memory old new (Happened (Fork old.actor s its)) refusal did.0 did.1 other)
@@ -149,8 +126,8 @@ one_within its done these rest labels is one = record {
 
 -- what was refused of one job is refused of the jobs
 pub fork_turned : (old mid new : OwnerValue) (s : ℕ) (its : LabelValue) (done rest labels : List LabelValue) (why : GatewayFault) → SeesMore old mid → IsBeginning old.seen mid.seen → labels ≡ done ++ its ∷ rest → IsTurnedDown (ForkTurnedDown mid new s (its ∷ [])) why → IsTurnedDown (ForkTurnedDown old new s labels) why
-fork_turned old mid new s its done rest labels fault.Memory same begins is it = it
-fork_turned old mid new s its done rest labels fault.Rejected same begins is it = elim it [
+fork_turned old mid new s its done rest labels GatewayFault.Memory same begins is it = it
+fork_turned old mid new s its done rest labels GatewayFault.Rejected same begins is it = elim it [
   | inl by ↦ inl (
     by.0,
     one_within by.0 done (its ∷ []) rest labels is by.1,
@@ -165,9 +142,9 @@ fork_turned old mid new s its done rest labels fault.Rejected same begins is it 
     never = never.never;
   })
 ]
-fork_turned old mid new s its done rest labels fault.Strange same begins is it = it
-fork_turned old mid new s its done rest labels fault.Cancelled same begins is it = it
-fork_turned old mid new s its done rest labels fault.Lost same begins is it = it
+fork_turned old mid new s its done rest labels GatewayFault.Strange same begins is it = it
+fork_turned old mid new s its done rest labels GatewayFault.Cancelled same begins is it = it
+fork_turned old mid new s its done rest labels GatewayFault.Lost same begins is it = it
 
 -- ---- a tick, a join
 
@@ -179,7 +156,7 @@ pub pulse_keeps : (old new : OwnerValue) (reading : Option ℕ) (result : Result
 pulse_keeps old new None result read it = absurd cc
 pulse_keeps old new (Some now) result read it = ticked old new now result it.1
 
-pub pulse_refused : (old new : OwnerValue) (plan : PlanValue) (s : ℕ) (reading : Option ℕ) (refusal : Refusal) (why : GatewayFault) → IsSome reading → Pulsed old new reading (Err refusal) → IsOfCall why → (refusal ≡ Memory → why ≡ fault.Memory) → IsTurnedDown (IsRejectedIn old new plan s) why
+pub pulse_refused : (old new : OwnerValue) (plan : PlanValue) (s : ℕ) (reading : Option ℕ) (refusal : Refusal) (why : GatewayFault) → IsSome reading → Pulsed old new reading (Err refusal) → IsOfCall why → (refusal ≡ Memory → why ≡ GatewayFault.Memory) → IsTurnedDown (IsRejectedIn old new plan s) why
 pulse_refused old new plan s None refusal why read it call memory = absurd cc
 pulse_refused old new plan s (Some now) refusal why read it call memory =
     turned_down _ refusal why call memory (λ other.
@@ -190,7 +167,7 @@ pub join_keeps : (old new : OwnerValue) (s : ℕ) (result : Result Joined Refusa
 join_keeps old new s (Ok joined) it = added old.limits old.actor old.seen new.seen (Happened (Join old.actor s)) it.1.0 refl
 join_keeps old new s (Err refusal) it = looked old.limits old.actor old.seen new.seen (looked_by old new (Happened (Join old.actor s)) refusal it.1)
 
-pub join_refused : (old new : OwnerValue) (plan : PlanValue) (s : ℕ) (refusal : Refusal) (why : GatewayFault) → Joins old new s (Err refusal) → IsOfCall why → (refusal ≡ Memory → why ≡ fault.Memory) → IsTurnedDown (IsRejectedIn old new plan s) why
+pub join_refused : (old new : OwnerValue) (plan : PlanValue) (s : ℕ) (refusal : Refusal) (why : GatewayFault) → Joins old new s (Err refusal) → IsOfCall why → (refusal ≡ Memory → why ≡ GatewayFault.Memory) → IsTurnedDown (IsRejectedIn old new plan s) why
 join_refused old new plan s refusal why it call memory =
     turned_down _ refusal why call memory (λ other.
     let x = Happened (Join old.actor s) in

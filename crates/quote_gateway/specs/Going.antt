@@ -1,35 +1,7 @@
 -- How a token's list of steps goes on while a request is served in a scope of its actor.
-use Rattle.std.specs.Prelude.{◌≡◌, ℕ, ◌==◌, ◌⊎◌, ◌≢◌, Bool, false, true, Some, Err, List, ◌∷◌, ◌++◌, map}
-use Rattle.std.specs.List.{list_any}
-use Rattle.scope_rules.specs.declared.types.capacity.Limits.{Limits}
-use Rattle.scope_rules.specs.declared.types.answers.ForkReply.{ForkReply}
-use Rattle.scope_rules.specs.declared.types.answers.ForkReply.TheVariants.{Thread, Never}
-use Rattle.scope_rules.specs.declared.types.events.Event.{Event}
-use Rattle.scope_rules.specs.declared.types.events.Event.TheVariants.{Open, Fork, EndClose}
-use Rattle.scope_rules.specs.declared.types.events.Options.{Options}
-use Rattle.scope_rules.specs.declared.types.joiners.Policy.{Policy}
-use Rattle.scope_rules.specs.declared.types.outcomes.Outcome.{Outcome}
-use Rattle.scope_rules.specs.declared.types.refusals.Refusal.{Refusal}
-use Rattle.scope_rules.specs.declared.types.refusals.Refusal.TheVariants.{Memory}
-use Rattle.scope_rules.specs.Ends.{LabelValue}
-use Rattle.scope_rules.specs.History.{History}
-use Rattle.scope_rules.specs.Completions.{is_task_of}
-use Rattle.scope_rules.specs.Nests.{tasks_of, label}
-use Rattle.scope_rules.specs.Outcomes.{outcome}
-use Rattle.scope_rules.specs.Replies.{next_scope}
-use Rattle.scope_rules.specs.Scopes.{innermost}
-use Rattle.scope_rules.specs.Tasks.{rejected}
-use Rattle.share_ledger.specs.declared.steps.RealmStep.{RealmStep}
-use Rattle.share_ledger.specs.declared.steps.RealmStep.TheVariants.{Happened}
-use Rattle.share_ledger.specs.Steps.{IsLegal, history_of}
-use Rattle.share_ledger.specs.Tickets.{is_event}
-use Rattle.share_ledger.specs.Values.{OwnerValue}
-use Rattle.realm_core.specs.Calls.{Accepted, history_seen, step_check}
-use Rattle.realm_core.specs.Ends.{Ends}
-use Rattle.realm_core.specs.Waiting.{IsOpenOf}
-use Rattle.job_runner.specs.Forks.{reply_there}
-use Rattle.quote_gateway.specs.declared.faults.GatewayFault.{GatewayFault}
-use Rattle.quote_gateway.specs.declared.faults.GatewayFault.TheVariants as fault
+use Rattle.quote_gateway.specs.Words.{ℕ, ◌++◌, ◌==◌, ◌∷◌, ◌≡◌, ◌≢◌, ◌⊎◌, Accepted, Bool, EndClose, Ends, Err, Event, Fork, ForkReply, GatewayFault, Happened, History, IsLegal, IsOpenOf, LabelValue}
+use Rattle.quote_gateway.specs.Words.{Limits, List, Memory, Never, Open, Options, Outcome, OwnerValue, Policy, RealmStep, Refusal, Some, Thread, false, history_of, history_seen, innermost, is_event}
+use Rattle.quote_gateway.specs.Words.{is_task_of, label, list_any, map, next_scope, outcome, rejected, reply_there, step_check, tasks_of, true}
 
 -- ---- lists that go on
 
@@ -128,8 +100,8 @@ pub record IsRefusedAt (old new : OwnerValue) (x : RealmStep) : Type 0 where
 
 -- memory was refused, or this is why
 abbrev pub IsTurnedDown : Type 0 → GatewayFault → Type 0
-IsTurnedDown Why fault.Memory = Unit {0}
-IsTurnedDown Why fault.Rejected = Why
+IsTurnedDown Why GatewayFault.Memory = Unit {0}
+IsTurnedDown Why GatewayFault.Rejected = Why
 IsTurnedDown Why _ = ⊥
 
 -- the label is one of these

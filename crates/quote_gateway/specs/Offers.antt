@@ -1,7 +1,5 @@
 -- The jobs of a plan's offers.
-use Rattle.std.specs.Prelude.{List, map}
-use Rattle.scope_rules.specs.Ends.{LabelValue}
-use Rattle.share_ledger.specs.Named.{NamedValue}
+use Rattle.quote_gateway.specs.Words.{LabelValue, List, NamedValue, map}
 
 -- the labels of the jobs, in order
 abbrev pub labels_in : {J : Type 0} → List (NamedValue J) → List LabelValue

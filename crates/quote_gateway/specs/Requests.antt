@@ -1,34 +1,8 @@
 -- What a request comes to, and on what that rests: all is said of the history that the token of its context has
 -- seen by then.
-use Rattle.std.specs.Prelude.{◌≡◌, ℕ, ◌<◌, ◌≤◌, true, false, ◌⊎◌, Option, Some, None, Result, List, [], map, IfSome, MatchResult}
-use Rattle.scope_rules.specs.declared.types.events.Event.TheVariants.{Open, Fork, Join}
-use Rattle.scope_rules.specs.declared.types.events.Expiry.TheVariants.{Fail, MoveOn}
-use Rattle.scope_rules.specs.declared.types.events.Options.{Options}
-use Rattle.scope_rules.specs.declared.types.joiners.Policy.{Policy}
-use Rattle.scope_rules.specs.declared.types.records.Opening.{Opening}
-use Rattle.scope_rules.specs.declared.types.outcomes.Outcome.{Outcome}
-use Rattle.scope_rules.specs.declared.types.outcomes.Outcome.TheVariants as outcome_is
-use Rattle.scope_rules.specs.declared.types.outcomes.TaskState.{TaskState}
-use Rattle.scope_rules.specs.declared.types.refusals.Refusal.{Refusal}
-use Rattle.scope_rules.specs.Answers.{listing_by}
-use Rattle.scope_rules.specs.History.{History, moment, opening, scopes}
-use Rattle.scope_rules.specs.Nests.{tasks_of, label}
-use Rattle.scope_rules.specs.Outcomes.{outcome}
-use Rattle.scope_rules.specs.Scopes.{closed}
-use Rattle.scope_rules.specs.Tasks.{state}
-use Rattle.share_ledger.specs.declared.steps.Ask.TheVariants.{Tick}
-use Rattle.share_ledger.specs.declared.steps.RealmStep.{RealmStep}
-use Rattle.share_ledger.specs.declared.steps.RealmStep.TheVariants.{Happened, Asked}
-use Rattle.share_ledger.specs.Values.{OwnerValue}
-use Rattle.realm_core.specs.Calls.{DoesOrMemory, history_seen}
-use Rattle.quote_plan.specs.Plans.{PlanValue, labels_of, policy_of}
-use Rattle.quote_plan.specs.Allowed.{AllowedText, HasExpired, PartText}
-use Rattle.quote_plan.specs.Answering.{Answers, IsCancelled}
-use Rattle.quote_plan.specs.declared.answers.Answer.{Answer}
-use Rattle.quote_plan.specs.declared.answering.NoAnswer.{NoAnswer}
-use Rattle.quote_plan.specs.declared.answering.NoAnswer.TheVariants as none
-use Rattle.quote_gateway.specs.declared.faults.GatewayFault.{GatewayFault}
-use Rattle.quote_gateway.specs.declared.faults.GatewayFault.TheVariants as fault
+use Rattle.quote_gateway.specs.Words.{[], ℕ, ◌<◌, ◌≡◌, ◌≤◌, ◌⊎◌, AllowedText, Answer, Answers, Asked, DoesOrMemory, Fail, Fork, GatewayFault, Happened, HasExpired, History, IfSome, IsCancelled, Join}
+use Rattle.quote_gateway.specs.Words.{List, MatchResult, MoveOn, NoAnswer, None, Open, Opening, Option, Options, Outcome, OwnerValue, PartText, PlanValue, Policy, RealmStep, Refusal, Result, Some}
+use Rattle.quote_gateway.specs.Words.{TaskState, Tick, closed, false, history_seen, label, labels_of, listing_by, map, moment, opening, outcome, policy_of, scopes, state, tasks_of, true}
 use Rattle.quote_gateway.specs.Going.{HasRejected, IsOneOf, IsRefusedAt, IsTurnedDown}
 
 -- the plan allows the text, or the text says some of the prices and that is so
@@ -81,7 +55,7 @@ RestsOn old new plan options a = WasServed old new plan options (MakesAnswer pla
 
 -- the outcome shows what was there at the deadline
 abbrev pub IsPartial : Outcome → Type 0
-IsPartial (outcome_is.Partial states) = Unit {0}
+IsPartial (Outcome.Partial states) = Unit {0}
 IsPartial _ = ⊥
 
 -- no answer rests on the outcome and the states
@@ -94,20 +68,20 @@ WasCancelled Expired o = IsCancelled o ⊎ (IsPartial o × (Expired → ⊥))
 
 -- a call was refused
 abbrev pub IsOfCall : GatewayFault → Type 0
-IsOfCall fault.Memory = Unit {0}
-IsOfCall fault.Rejected = Unit {0}
+IsOfCall GatewayFault.Memory = Unit {0}
+IsOfCall GatewayFault.Rejected = Unit {0}
 IsOfCall _ = ⊥
 
 abbrev pub fault_of : NoAnswer → GatewayFault
-fault_of none.Lost = fault.Lost
-fault_of none.Cancelled = fault.Cancelled
-fault_of none.Memory = fault.Memory
+fault_of NoAnswer.Lost = GatewayFault.Lost
+fault_of NoAnswer.Cancelled = GatewayFault.Cancelled
+fault_of NoAnswer.Memory = GatewayFault.Memory
 
 -- why the outcome and the states make no answer
 abbrev pub MakesNone : PlanValue → Type 0 → List TaskState → Outcome → GatewayFault → Type 0
-MakesNone plan Expired tasks o fault.Lost = NoneRests plan tasks o
-MakesNone plan Expired tasks o fault.Cancelled = WasCancelled Expired o
-MakesNone plan Expired tasks o fault.Memory = Unit {0}
+MakesNone plan Expired tasks o GatewayFault.Lost = NoneRests plan tasks o
+MakesNone plan Expired tasks o GatewayFault.Cancelled = WasCancelled Expired o
+MakesNone plan Expired tasks o GatewayFault.Memory = Unit {0}
 MakesNone plan Expired tasks o _ = ⊥
 
 -- what the outcome and the states make: an answer, or none
@@ -144,14 +118,14 @@ IsNotOpened old new plan options = IsRefusedAt old new (Happened (Open old.actor
 
 -- why nothing is found in scope s
 abbrev pub FindsNone : OwnerValue → OwnerValue → PlanValue → ℕ → Type 0 → GatewayFault → Type 0
-FindsNone old new plan s Expired fault.Lost = IsFound (history_seen new) plan s (NoneRests plan)
-FindsNone old new plan s Expired fault.Cancelled = IsFound (history_seen new) plan s (λ tasks o. WasCancelled Expired o)
+FindsNone old new plan s Expired GatewayFault.Lost = IsFound (history_seen new) plan s (NoneRests plan)
+FindsNone old new plan s Expired GatewayFault.Cancelled = IsFound (history_seen new) plan s (λ tasks o. WasCancelled Expired o)
 FindsNone old new plan s Expired why = IsTurnedDown (IsRejectedIn old new plan s) why
 
 -- why a request whose jobs are the plan's has no answer
 abbrev pub Fails : OwnerValue → OwnerValue → PlanValue → Options → Type 0 → GatewayFault → Type 0
-Fails old new plan options Expired fault.Lost = WasServed old new plan options (NoneRests plan)
-Fails old new plan options Expired fault.Cancelled = WasServed old new plan options (λ tasks o. WasCancelled Expired o)
+Fails old new plan options Expired GatewayFault.Lost = WasServed old new plan options (NoneRests plan)
+Fails old new plan options Expired GatewayFault.Cancelled = WasServed old new plan options (λ tasks o. WasCancelled Expired o)
 Fails old new plan options Expired why = IsTurnedDown (IsNotOpened old new plan options ⊎ WasRejected old new plan options) why
 
 -- what is found in scope s: an answer that rests on it, or nothing for a cause

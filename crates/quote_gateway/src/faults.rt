@@ -1,5 +1,4 @@
-ghost use Rattle.std.specs.Prelude.{◌≡◌, ◌≢◌};
-ghost use Rattle.quote_gateway.specs.Requests.{IsOfCall, fault_of};
+ghost use Rattle.quote_gateway.specs.{◌≡◌, ◌≢◌, IsOfCall, fault_of};
 
 use quote_plan::NoAnswer;
 use scope_rules::Refusal;

@@ -1,7 +1,5 @@
 //! Whether jobs are those of a plan's offers, by their labels.
-ghost use Rattle.std.specs.Prelude.{◌≡◌, ◌↔◌, IsTrue};
-ghost use Rattle.quote_plan.specs.Plans.{labels_of};
-ghost use Rattle.quote_gateway.specs.Offers.{labels_in};
+ghost use Rattle.quote_gateway.specs.{◌↔◌, ◌≡◌, IsTrue, labels_in, labels_of};
 
 use job_runner::{Answers, NamedJob};
 use quote_plan::Plan;

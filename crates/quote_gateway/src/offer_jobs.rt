@@ -1,9 +1,5 @@
 //! Jobs that end as the offers of a plan say.
-ghost use Rattle.std.specs.Prelude.{◌≡◌, IfOk, IfSome, is_some, true};
-ghost use Rattle.std.specs.List.{list_any};
-ghost use Rattle.scope_rules.specs.Names.{same_name};
-ghost use Rattle.quote_plan.specs.Plans.{label_of, labels_of};
-ghost use Rattle.quote_gateway.specs.Offers.{labels_in};
+ghost use Rattle.quote_gateway.specs.{◌≡◌, IfOk, IfSome, is_some, label_of, labels_in, labels_of, list_any, same_name, true};
 
 use job_runner::{Answers, Job, NamedJob, SystemClock, TaskCtx};
 use quote_plan::{Offer, Plan};

@@ -1,14 +1,8 @@
 //! What is done for a request in its scope.
-ghost use Rattle.std.specs.Prelude.{◌≡◌, ◌↔◌, ℕ, [], ◌∷◌, IfErr, IfOk, IsTrue};
+ghost use Rattle.quote_gateway.specs.{[], ℕ, ◌↔◌, ◌∷◌, ◌≡◌, Allows, EndsScope, Finds, ForkTurnedDown, ForkedAs, HasForked, HasJoined, IfErr, IfOk, IsOpenHere, IsPartial, IsTaskHere, IsTrue};
+ghost use Rattle.quote_gateway.specs.{IsTurnedDown, KeepsScopes, KeepsTasks, MakesBy, Opens, OpensNone, SeesMore, answer_text, history_seen, labels_in, labels_of, listing_by, policy_of, state};
+ghost use Rattle.quote_gateway.specs.{task_in};
 ghost use Rattle.join_rules.specs.Joiners.{policy_of as policy_stored};
-ghost use Rattle.scope_rules.specs.Answers.{listing_by};
-ghost use Rattle.scope_rules.specs.Tasks.{state};
-ghost use Rattle.realm_core.specs.Calls.{SeesMore, history_seen};
-ghost use Rattle.quote_plan.specs.AnswerText.{answer_text};
-ghost use Rattle.quote_plan.specs.Plans.{labels_of, policy_of};
-ghost use Rattle.quote_gateway.specs.Going.{EndsScope, ForkTurnedDown, ForkedAs, HasForked, HasJoined, IsOpenHere, IsTaskHere, IsTurnedDown, KeepsScopes, KeepsTasks, Opens, OpensNone, task_in};
-ghost use Rattle.quote_gateway.specs.Offers.{labels_in};
-ghost use Rattle.quote_gateway.specs.Requests.{Allows, Finds, IsPartial, MakesBy};
 
 use crate::faults::GatewayFault;
 use job_runner::{Answers, JobWork, NamedJob, TaskCtx};

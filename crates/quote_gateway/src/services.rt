@@ -1,12 +1,6 @@
 //! A request in a realm of its own, with which a service may begin.
-ghost use Rattle.std.specs.Prelude.{◌≡◌, ◌↔◌, None, IfErr, IfOk, Err, MatchResult, OnOk};
-ghost use Rattle.scope_rules.specs.Scopes.{innermost};
-ghost use Rattle.realm_core.specs.Calls.{history_seen};
-ghost use Rattle.quote_plan.specs.Allowed.{AllowedText, AllowedTextBy, HasExpired};
-ghost use Rattle.quote_plan.specs.AnswerText.{answer_text};
-ghost use Rattle.quote_plan.specs.Plans.{labels_of};
-ghost use Rattle.quote_gateway.specs.Offers.{labels_in};
-ghost use Rattle.quote_gateway.specs.Requests.{ComesTo, IsTold, moving_on, unused, without_deadline};
+ghost use Rattle.quote_gateway.specs.{◌↔◌, ◌≡◌, AllowedText, AllowedTextBy, ComesTo, Err, HasExpired, IfErr, IfOk, IsTold, MatchResult, None, OnOk, answer_text, history_seen, innermost, labels_in};
+ghost use Rattle.quote_gateway.specs.{labels_of, moving_on, unused, without_deadline};
 
 use crate::faults::GatewayFault;
 use crate::labels::are_offers;

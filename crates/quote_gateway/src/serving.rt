@@ -1,12 +1,6 @@
 //! Serving requests over the context of a service.
-ghost use Rattle.std.specs.Prelude.{◌≡◌, ◌↔◌, [], IfErr, IfOk, Err, OnOk};
-ghost use Rattle.realm_core.specs.Calls.{SeesMore, history_seen};
-ghost use Rattle.quote_plan.specs.Allowed.{AllowedText, AllowedTextBy};
-ghost use Rattle.quote_plan.specs.AnswerText.{answer_text};
-ghost use Rattle.quote_plan.specs.Plans.{labels_of};
-ghost use Rattle.quote_gateway.specs.Going.{HasForked, IsBeginning, KeepsInnermost, KeepsScopes};
-ghost use Rattle.quote_gateway.specs.Offers.{labels_in};
-ghost use Rattle.quote_gateway.specs.Requests.{Allows, ComesTo, Fails, FailsBy, Finds, IsTold, RestsOn, moving_on, without_deadline};
+ghost use Rattle.quote_gateway.specs.{[], ◌↔◌, ◌≡◌, AllowedText, AllowedTextBy, Allows, ComesTo, Err, Fails, FailsBy, Finds, HasForked, IfErr, IfOk, IsBeginning, IsTold, KeepsInnermost, KeepsScopes};
+ghost use Rattle.quote_gateway.specs.{OnOk, RestsOn, SeesMore, answer_text, history_seen, labels_in, labels_of, moving_on, without_deadline};
 
 use crate::faults::GatewayFault;
 use crate::labels::are_offers;

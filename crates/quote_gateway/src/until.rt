@@ -1,12 +1,6 @@
 //! Until when a request is served.
-ghost use Rattle.std.specs.Prelude.{◌≡◌, ◌↔◌, ℕ, Option, Some, IfErr, IfOk, IsSome, IsTrue, Err, OnOk};
-ghost use Rattle.scope_rules.specs.declared.types.events.Options.{Options};
-ghost use Rattle.realm_core.specs.Calls.{SeesMore, history_seen};
-ghost use Rattle.quote_plan.specs.Allowed.{HasExpired};
-ghost use Rattle.quote_plan.specs.AnswerText.{answer_text};
-ghost use Rattle.quote_plan.specs.Plans.{labels_of};
-ghost use Rattle.quote_gateway.specs.Going.{HasForked, IsOpenHere, KeepsTasks};
-ghost use Rattle.quote_gateway.specs.Requests.{Allows, Finds, IsTold, Pulsed, moving_on, without_deadline};
+ghost use Rattle.quote_gateway.specs.{ℕ, ◌↔◌, ◌≡◌, Allows, Err, Finds, HasExpired, HasForked, IfErr, IfOk, IsOpenHere, IsSome, IsTold, IsTrue, KeepsTasks, OnOk, Option, Options, Pulsed, SeesMore};
+ghost use Rattle.quote_gateway.specs.{Some, answer_text, history_seen, labels_of, moving_on, without_deadline};
 
 use crate::faults::GatewayFault;
 use crate::requests::{answer_joined, join_and_answer};

@@ -1,10 +1,6 @@
 -- The best of some quotes.
-use Rattle.std.proofs.Common.{◌≡◌, ℕ, zero, suc, ◌⊎◌, inl, inr, List, [], ◌∷◌, ◌++◌, length, slice_get, Some, refl, sym, ap, subst, arith}
-use Rattle.std.specs.Prelude.{◌≤ℤ◌, ◌<ℤ◌}
-use Rattle.std.proofs.lemmas.Int.{ints}
-use Rattle.std.proofs.lemmas.Option.{slice_get_within}
-use Rattle.quote_plan.specs.Allowed.{IsBest}
-use Rattle.quote_plan.specs.declared.answers.Quote.{Quote}
+use Rattle.quote_plan.specs.{[], ℕ, ◌++◌, ◌<ℤ◌, ◌∷◌, ◌≡◌, ◌≤ℤ◌, ◌⊎◌, IsBest, List, Quote, Some, length, slice_get}
+use Rattle.quote_plan.proofs.Words.{ap, arith, inl, inr, ints, refl, slice_get_within, subst, suc, sym, zero}
 
 module _ (last : Quote) where
   -- what stands at a place of a list with one element more

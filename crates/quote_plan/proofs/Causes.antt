@@ -1,17 +1,7 @@
 -- Why the line that the reading of a plan has come to is a bad one.
-use Rattle.std.proofs.Common.{◌≡◌, ℕ, ◌+◌, ◌-◌, ◌<◌, ◌==◌, true, false, suc, List, [], ◌∷◌, ◌++◌, length, take, refl, sym, ◌∙◌, ap, arith}
-use Rattle.std.specs.Prelude.{nat_lt}
-use Rattle.std.specs.List.{slice_split}
-use Rattle.std.proofs.lemmas.Bool.{eqb-true, lt-ltb, le-ltb}
-use Rattle.std.proofs.Math.Seq.{get_or-append_seam, take-append_seam}
-use Rattle.std.proofs.lemmas.List.{length-append, append_assoc}
-use Rattle.std.proofs.lemmas.List.Splits.{length-slice_split}
-use Rattle.quote_plan.specs.Cutting.{is_feed}
-use Rattle.quote_plan.specs.PlanReading.{lines_of, modes_in, offers_in}
-use Rattle.quote_plan.specs.PlanWhys.{why_of, why_of_last, why_of_piece, why_at}
-use Rattle.quote_plan.specs.ReadSoFar.{ReadingValue}
-use Rattle.quote_plan.specs.declared.whys.PlanWhy.TheVariants as why
-use Rattle.quote_plan.specs.declared.lines.PlanLine.{PlanLine}
+use Rattle.quote_plan.specs.{[], ℕ, ◌++◌, ◌+◌, ◌-◌, ◌<◌, ◌==◌, ◌∷◌, ◌≡◌, List, PlanLine, PlanWhy, ReadingValue, false, is_feed, length, lines_of, modes_in, nat_lt, offers_in, slice_split, take, true}
+use Rattle.quote_plan.specs.{why_at, why_of, why_of_last, why_of_piece}
+use Rattle.quote_plan.proofs.Words.{◌∙◌, ap, append_assoc, arith, eqb-true, get_or-append_seam, le-ltb, length-append, length-slice_split, lt-ltb, refl, suc, sym, take-append_seam}
 use Rattle.quote_plan.proofs.Progress.{HasRead}
 
 -- the pieces of the bytes are those that were passed, so many, and those of the rest
@@ -73,10 +63,10 @@ module _ (bytes rest : List ℕ) (number : ℕ) (reading : ReadingValue) (read :
       at_piece bytes number _ _ (all_pieces bytes rest number cut _ alone) refl ∙ ap (λ n. why_of_piece (cut.passed ++ rest ∷ []) (lines_of bytes) n) (sym cut.counted) in
       sym (here ∙ last_piece cut.passed rest (lines_of bytes))
 
-pub last_cut : (rest : List ℕ) → (length rest == 0) ≡ false → why_of_last rest ≡ why.NoLineFeed
+pub last_cut : (rest : List ℕ) → (length rest == 0) ≡ false → why_of_last rest ≡ PlanWhy.NoLineFeed
 last_cut [] some = absurd cc
 last_cut (b ∷ bs) some = refl
 
-pub last_none : (rest : List ℕ) → (length rest == 0) ≡ true → why_of_last rest ≡ why.NoMode
+pub last_none : (rest : List ℕ) → (length rest == 0) ≡ true → why_of_last rest ≡ PlanWhy.NoMode
 last_none [] none = refl
 last_none (b ∷ bs) none = absurd (omega (arith, eqb-true (suc (length bs)) 0 none))

@@ -1,14 +1,8 @@
 -- Where a text is cut first.
-use Rattle.std.proofs.Common.{◌≡◌, ℕ, ◌+◌, ◌<◌, ◌≤◌, Bool, true, false, cond, Some, None, List, [], ◌∷◌, ◌++◌, length, get_or, take, drop, refl, ap, ◌∙◌, subst, arith, nat_lt}
-use Rattle.std.specs.List.{position, position_or_len, slice_split}
-use Rattle.std.proofs.lemmas.Bool.{ltb-false}
-use Rattle.std.proofs.lemmas.List.Quantifiers.{position-Some}
-use Rattle.std.proofs.lemmas.List.Sums.{position_or_len_is}
-use Rattle.std.proofs.lemmas.List.Splits.{slice_split_first, slice_split-cons_no}
-use Rattle.std.proofs.lemmas.List.{get_or-take, length-take-le}
-use Rattle.std.proofs.lemmas.List.Sums.{fails_before_first, split_at_first}
-use Rattle.std.proofs.lemmas.Bool.Decides.{nat_tests}
-use Rattle.quote_plan.specs.Cutting.{CutsLine, HasNoFeed, is_feed}
+use Rattle.quote_plan.specs.{[], ℕ, ◌++◌, ◌+◌, ◌<◌, ◌∷◌, ◌≡◌, ◌≤◌, Bool, CutsLine, HasNoFeed, List, None, Some, false, get_or, is_feed, length, nat_lt, position, position_or_len, slice_split, take}
+use Rattle.quote_plan.specs.{true}
+use Rattle.quote_plan.proofs.Words.{◌∙◌, ap, arith, cond, drop, fails_before_first, get_or-take, length-take-le, ltb-false, nat_tests, position-Some, position_or_len_is, refl, slice_split-cons_no}
+use Rattle.quote_plan.proofs.Words.{slice_split_first, split_at_first, subst}
 
 module _ (p : ℕ → Bool) where
   -- the place is within, or the length

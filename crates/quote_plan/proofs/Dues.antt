@@ -1,7 +1,6 @@
 -- Whether states are those that are due, place by place.
-use Rattle.std.proofs.Common.{◌≡◌, ℕ, suc, ◌<◌, ◌==◌, ◌↔◌, Bool, true, false, IsTrue, List, [], ◌∷◌, length, slice_get, get_or, map, option_map, Some, refl, sym, ◌∙◌, ap, arith}
-use Rattle.std.proofs.lemmas.Bool.{eqb-true, eq-eqb}
-use Rattle.std.proofs.lemmas.Option.{slice_get-map, slice_get_read}
+use Rattle.quote_plan.specs.{[], ℕ, ◌<◌, ◌==◌, ◌↔◌, ◌∷◌, ◌≡◌, Bool, IsTrue, List, Some, false, get_or, length, map, slice_get, true}
+use Rattle.quote_plan.proofs.Words.{◌∙◌, ap, arith, eq-eqb, eqb-true, option_map, refl, slice_get-map, slice_get_read, suc, sym}
 
 module _ {A : Type 0} where
   same_places : (xs ys : List A) → length xs ≡ length ys → ((k : ℕ) → k < length xs → slice_get xs k ≡ slice_get ys k) → xs ≡ ys

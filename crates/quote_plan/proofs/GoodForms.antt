@@ -1,25 +1,16 @@
 -- Nothing is wrong with the words of an offer exactly if they are in a good form.
-use Rattle.std.proofs.Common.{◌≡◌, ℕ, ℤ, Bool, true, false, Option, None, Some, List, [], ◌∷◌, refl, if◌then◌else◌}
-use Rattle.std.specs.Prelude.{is_none, is_some}
-use Rattle.std.specs.Option.{option_or}
-use Rattle.scope_rules.specs.declared.types.names.Name.{Name}
-use Rattle.scope_rules.specs.declared.types.values.Fault.{Fault}
-use Rattle.script_words.specs.Steps.{◌>>=◌}
-use Rattle.script_words.specs.Fields.{just_two, just_three}
-use Rattle.script_words.specs.Words.{name_said}
-use Rattle.quote_plan.specs.PlanLines.{price_said, is_runtime_text, unless_runtime, fault_said, priced_said, failing_said, offer_said}
-use Rattle.quote_plan.specs.PlanWhys.{why_of_price, why_of_fault_named, why_of_fault, why_of_end, why_of_offer}
-use Rattle.quote_plan.specs.declared.lines.PlanLine.{PlanLine}
-use Rattle.quote_plan.specs.declared.whys.PlanWhy.{PlanWhy}
-use Rattle.quote_plan.specs.declared.whys.PlanWhy.TheVariants as why
+use Rattle.quote_plan.specs.{[], ℕ, ℤ, ◌>>=◌, ◌∷◌, ◌≡◌, Bool, Fault, List, Name, None, Option, PlanLine, PlanWhy, Some, failing_said, false, fault_said, if◌then◌else◌, is_none, is_runtime_text}
+use Rattle.quote_plan.specs.{is_some, just_three, just_two, name_said, offer_said, option_or, price_said, priced_said, true, unless_runtime, why_of_end, why_of_fault, why_of_fault_named, why_of_offer}
+use Rattle.quote_plan.specs.{why_of_price}
+use Rattle.quote_plan.proofs.Words.{refl}
 
 -- a price
-price_of : (said : ℤ → PlanLine) (o : Option ℤ) → is_none (if is_some o then None else Some why.BadPrice) ≡ is_some (option_or (o >>= (λ price. Some (said price))) None)
+price_of : (said : ℤ → PlanLine) (o : Option ℤ) → is_none (if is_some o then None else Some PlanWhy.BadPrice) ≡ is_some (option_or (o >>= (λ price. Some (said price))) None)
 price_of said None = refl
 price_of said (Some price) = refl
 
 -- a fault
-unless_made : (fault : Fault) (made : Bool) → is_none (if made then Some why.RuntimeFault else None) ≡ is_some (if made then None else Some fault)
+unless_made : (fault : Fault) (made : Bool) → is_none (if made then Some PlanWhy.RuntimeFault else None) ≡ is_some (if made then None else Some fault)
 unless_made fault true = refl
 unless_made fault false = refl
 
@@ -31,7 +22,7 @@ fault_of : (word : List ℕ) → is_none (why_of_fault word) ≡ is_some (fault_
 unfolding why_of_fault fault_said
 fault_of word = named_fault (name_said word)
 
-failing_of : (said : Fault → PlanLine) (fails : Bool) (o : Option Fault) (w : Option PlanWhy) → is_none w ≡ is_some o → is_none (if fails then w else Some why.NoForm) ≡ is_some (o >>= (λ fault. if fails then Some (said fault) else None))
+failing_of : (said : Fault → PlanLine) (fails : Bool) (o : Option Fault) (w : Option PlanWhy) → is_none w ≡ is_some o → is_none (if fails then w else Some PlanWhy.NoForm) ≡ is_some (o >>= (λ fault. if fails then Some (said fault) else None))
 failing_of said true None w same = same
 failing_of said true (Some fault) w same = same
 failing_of said false None w same = refl

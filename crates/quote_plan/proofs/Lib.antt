@@ -10,3 +10,4 @@ pub mod OfferEnds
 pub mod Passing
 pub mod Prices
 pub mod Progress
+mod Words

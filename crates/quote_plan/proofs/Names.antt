@@ -1,17 +1,7 @@
 -- A name among the names of offers.
-use Rattle.std.proofs.Common.{◌≡◌, ◌==◌, ◌&&◌, Bool, true, false, List, [], ◌∷◌, ◌++◌, take, refl, sym, ◌∙◌, ap}
-use Rattle.std.specs.Prelude.{is_some, nat_eq}
-use Rattle.std.specs.Map.{lookup}
-use Rattle.std.specs.Cmp.Derive.{both_true}
-use Rattle.std.specs.Cmp.Lexicographic.{pointwise, bytes_decides}
-use Rattle.std.proofs.lemmas.Bool.{eqb-true, eq-eqb}
-use Rattle.scope_rules.specs.Names.{same_name, text_of}
-use Rattle.scope_rules.specs.declared.types.names.Name.{Name}
-use Rattle.scope_rules.proofs.NameLemmas.{same_text}
-use Rattle.indexmap.specs.IndexMap.{insert_entry}
-use Rattle.quote_plan.specs.Plans.{Named}
-use Rattle.quote_plan.specs.declared.plans.Offer.{Offer}
-use Rattle.quote_plan.specs.PlanReading.{is_named}
+use Rattle.quote_plan.specs.{[], ◌&&◌, ◌++◌, ◌==◌, ◌∷◌, ◌≡◌, Bool, List, Name, Named, Offer, both_true, bytes_decides, false, insert_entry, is_named, is_some, lookup, nat_eq, pointwise, same_name}
+use Rattle.quote_plan.specs.{take, text_of, true}
+use Rattle.quote_plan.proofs.Words.{◌∙◌, ap, eq-eqb, eqb-true, refl, same_text, sym}
 
 named_at : (name : Name) (test : Name → Bool) (e : Named) (es : List Named) (found : Bool) → test e.0 ≡ found → same_name name e.0 ≡ found → is_some (lookup test es) ≡ is_named name es → is_some (lookup test (e ∷ es)) ≡ is_named name (e ∷ es)
 unfolding is_named

@@ -1,9 +1,6 @@
 -- What is wrong with the words after an offer's name, by how many they are.
-use Rattle.std.proofs.Common.{◌≡◌, ℕ, Option, None, Some, List, [], ◌∷◌, refl}
-use Rattle.script_words.specs.Fields.{just_one, just_two}
-use Rattle.quote_plan.specs.PlanWhys.{why_of_price, why_of_failing, why_of_end}
-use Rattle.quote_plan.specs.declared.whys.PlanWhy.{PlanWhy}
-use Rattle.quote_plan.specs.declared.whys.PlanWhy.TheVariants.{NoForm}
+use Rattle.quote_plan.specs.{[], ℕ, ◌∷◌, ◌≡◌, List, NoForm, None, Option, PlanWhy, Some, just_one, just_two, why_of_end, why_of_failing, why_of_price}
+use Rattle.quote_plan.proofs.Words.{refl}
 
 abbrev pub why_of_two : Option (List ℕ × List ℕ) → Option PlanWhy
 why_of_two None = Some NoForm

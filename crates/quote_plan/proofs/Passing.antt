@@ -1,22 +1,9 @@
 -- How the reading of a plan goes on that comes piece by piece.
-use Rattle.std.proofs.Common.{◌≡◌, ℕ, ◌+◌, ◌<◌, ◌==◌, true, false, List, [], ◌∷◌, ◌++◌, length, map, refl, sym, ◌∙◌, ap, arith, subst, suc, below_more}
-use Rattle.std.specs.List.{slice_split}
-use Rattle.std.proofs.lemmas.Bool.{eqb-true, ne_eqb}
-use Rattle.std.proofs.lemmas.List.{append-nil, append_assoc, length-append, length-map, map-append}
-use Rattle.std.proofs.lemmas.List.Elements.{All-append, All-nil}
-use Rattle.std.proofs.lemmas.List.Splits.{length-slice_split, slice_split_at, slice_split_none}
-use Rattle.quote_plan.specs.Begun.{StandsFor, same, long}
-use Rattle.quote_plan.specs.Cutting.{CutsLine, HasNoFeed, is_feed}
-use Rattle.quote_plan.specs.Passing.{HasTaken, NamesLine, Passed, PlanSoFar}
-use Rattle.quote_plan.specs.PlanLines.{line_said}
-use Rattle.quote_plan.specs.PlanReading.{AreGood, FirstBad, SayPlan, is_good, lines_of, may_follow, mode_in, modes_in, offer_in, offers_in, pieces_said}
-use Rattle.quote_plan.specs.PlanWhys.{why_at, why_of}
-use Rattle.quote_plan.specs.ReadSoFar.{ReadingValue, may_come, with_line}
-use Rattle.quote_plan.specs.Plans.{PlanValue}
-use Rattle.quote_plan.specs.declared.lines.PlanLine.TheVariants.{BadWord}
-use Rattle.quote_plan.specs.declared.reading.PlanFault.{PlanFault}
-use Rattle.quote_plan.specs.declared.reading.PlanFault.TheVariants as fault
-use Rattle.quote_plan.specs.declared.whys.PlanWhy.TheVariants as why
+use Rattle.quote_plan.specs.{[], ℕ, ◌++◌, ◌+◌, ◌<◌, ◌==◌, ◌∷◌, ◌≡◌, AreGood, BadWord, CutsLine, FirstBad, HasNoFeed, HasTaken, List, NamesLine, Passed, PlanFault, PlanSoFar, PlanValue, PlanWhy}
+use Rattle.quote_plan.specs.{ReadingValue, SayPlan, StandsFor, false, is_feed, is_good, length, line_said, lines_of, long, map, may_come, may_follow, mode_in, modes_in, offer_in, offers_in}
+use Rattle.quote_plan.specs.{pieces_said, same, slice_split, true, why_at, why_of, with_line}
+use Rattle.quote_plan.proofs.Words.{◌∙◌, All-append, All-nil, ap, append-nil, append_assoc, arith, below_more, eqb-true, length-append, length-map, length-slice_split, map-append, ne_eqb, refl}
+use Rattle.quote_plan.proofs.Words.{slice_split_at, slice_split_none, subst, suc, sym}
 use Rattle.quote_plan.proofs.Causes.{HasCut, last_cut, why_here, why_there}
 use Rattle.quote_plan.proofs.Progress.{HasRead, all_said, cut_line, first_bad, more_pieces, next_line, no_line, no_mode, one_more, seam, still_good}
 
@@ -87,14 +74,14 @@ module _ (front : List ℕ) (number : ℕ) (reading : ReadingValue) (passed : Pa
   pub said_all : (plan : PlanValue) → reading.modes ≡ plan.mode ∷ [] → reading.offers ≡ plan.offers → SayPlan (lines_of (front ++ [])) plan
   said_all plan mode offers = all_said (front ++ []) [] (length passed.pieces) reading (as_read []) (no_line [] refl refl) plan mode offers
 
-  pub said_no_mode : reading.modes ≡ [] → FirstBad (lines_of (front ++ [])) number × (why.NoMode ≡ why_at (front ++ []) number)
+  pub said_no_mode : reading.modes ≡ [] → FirstBad (lines_of (front ++ [])) number × (PlanWhy.NoMode ≡ why_at (front ++ []) number)
   said_no_mode none = (
     subst (FirstBad (lines_of (front ++ []))) (sym passed.counted) (no_mode (front ++ []) [] (length passed.pieces) reading (as_read []) (no_line [] refl refl) none),
     why_there (front ++ []) [] (length passed.pieces) reading (as_read []) (as_cut []) refl ∙ ap (why_at (front ++ [])) (sym passed.counted),
   )
 
   -- a line is begun
-  pub said_cut : (begun : List ℕ) → HasNoFeed begun → (length begun == 0) ≡ false → FirstBad (lines_of (front ++ begun)) number × (why.NoLineFeed ≡ why_at (front ++ begun) number)
+  pub said_cut : (begun : List ℕ) → HasNoFeed begun → (length begun == 0) ≡ false → FirstBad (lines_of (front ++ begun)) number × (PlanWhy.NoLineFeed ≡ why_at (front ++ begun) number)
   said_cut begun plain some =
       let alone = slice_split_none is_feed begun plain in (
         subst (FirstBad (lines_of (front ++ begun))) (sym passed.counted) (first_bad (front ++ begun) begun (length passed.pieces) reading (as_read begun) BadWord [] (cut_line begun alone some) refl),
@@ -178,13 +165,13 @@ module _ (before : PlanSoFar) (bytes : List ℕ) (taken : HasTaken before bytes)
   ends_well plan none mode offers =
       subst (λ b. SayPlan (lines_of b) plan) (sym (taken.whole ∙ ap (λ b. taken.front ++ b) (line_is_none none))) (said_all taken.front before.number before.reading taken.passed plan mode offers)
 
-  pub ends_without_mode : before.begun ≡ [] → before.reading.modes ≡ [] → NamesLine bytes (fault.Word before.number why.NoMode)
+  pub ends_without_mode : before.begun ≡ [] → before.reading.modes ≡ [] → NamesLine bytes (PlanFault.Word before.number PlanWhy.NoMode)
   ends_without_mode none modes =
-      subst (λ b. NamesLine b (fault.Word before.number why.NoMode)) (sym (taken.whole ∙ ap (λ b. taken.front ++ b) (line_is_none none))) (said_no_mode taken.front before.number before.reading taken.passed modes)
+      subst (λ b. NamesLine b (PlanFault.Word before.number PlanWhy.NoMode)) (sym (taken.whole ∙ ap (λ b. taken.front ++ b) (line_is_none none))) (said_no_mode taken.front before.number before.reading taken.passed modes)
 
-  pub ends_cut : (length before.begun == 0) ≡ false → NamesLine bytes (fault.Word before.number why.NoLineFeed)
+  pub ends_cut : (length before.begun == 0) ≡ false → NamesLine bytes (PlanFault.Word before.number PlanWhy.NoLineFeed)
   ends_cut some =
-      subst (λ b. NamesLine b (fault.Word before.number why.NoLineFeed)) (sym taken.whole) (said_cut taken.front before.number before.reading taken.passed taken.line taken.unended (line_is_some some))
+      subst (λ b. NamesLine b (PlanFault.Word before.number PlanWhy.NoLineFeed)) (sym taken.whole) (said_cut taken.front before.number before.reading taken.passed taken.line taken.unended (line_is_some some))
 
 -- ---- a piece
 

@@ -1,13 +1,7 @@
 -- The prices of the offers, one by one.
-use Rattle.std.proofs.Common.{◌≡◌, ℕ, zero, suc, ◌+◌, ◌≤◌, List, [], ◌∷◌, ◌++◌, length, take, slice_get, Option, None, Some, refl, ◌∙◌, ap, add-one, arith}
-use Rattle.std.specs.List.{cons_option}
-use Rattle.std.specs.Option.{option_and_then, option_to_list}
-use Rattle.std.proofs.lemmas.List.{take_all, append-nil}
-use Rattle.scope_rules.specs.declared.types.outcomes.TaskState.{TaskState}
-use Rattle.quote_plan.specs.Plans.{Named}
-use Rattle.quote_plan.specs.Allowed.{quote_in, quotes_in}
-use Rattle.quote_plan.specs.Answering.{quote_there, available}
-use Rattle.quote_plan.specs.declared.answers.Quote.{Quote}
+use Rattle.quote_plan.specs.{[], ℕ, ◌++◌, ◌+◌, ◌∷◌, ◌≡◌, ◌≤◌, List, Named, None, Option, Quote, Some, TaskState, available, cons_option, length, option_and_then, option_to_list, quote_in, quote_there}
+use Rattle.quote_plan.specs.{quotes_in, slice_get, take}
+use Rattle.quote_plan.proofs.Words.{◌∙◌, add-one, ap, append-nil, arith, refl, suc, take_all, zero}
 
 abbrev pub quote_at : List Named → ℕ → Option Quote
 quote_at offers i = option_and_then quote_in (slice_get offers i)

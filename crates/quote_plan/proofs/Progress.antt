@@ -1,21 +1,9 @@
 -- How far the reading of a plan has come.
-use Rattle.std.proofs.Common.{◌≡◌, ℕ, suc, ◌+◌, ◌<◌, ◌≤◌, ◌==◌, true, false, IsTrue, inl, inr, Option, None, Some, List, [], ◌∷◌, ◌++◌, length, take, get_or, refl, sym, ◌∙◌, ap, arith, below_more}
-use Rattle.std.specs.Prelude.{IsSome}
-use Rattle.std.specs.List.{slice_split, filter_map, cons_option}
-use Rattle.std.specs.Option.{option_to_list}
-use Rattle.std.proofs.lemmas.Bool.{eqb-true}
-use Rattle.std.proofs.Math.ListN.{get_or-append}
-use Rattle.std.proofs.Math.Seq.{get_or-append_seam, take-append_seam}
-use Rattle.std.proofs.lemmas.List.{take-append-le, length-append, append-nil, append_assoc}
-use Rattle.std.proofs.lemmas.List.Elements.{filter_map-append}
-use Rattle.std.proofs.lemmas.List.Splits.{length-slice_split}
-use Rattle.quote_plan.specs.Cutting.{is_feed}
-use Rattle.quote_plan.specs.Plans.{PlanValue}
-use Rattle.quote_plan.specs.PlanLines.{line_said}
-use Rattle.quote_plan.specs.PlanReading.{cut_said, pieces_said, lines_of, mode_in, offer_in, modes_in, offers_in, may_follow, is_good, AreGood, SayPlan, FirstBad, RefusedAt}
-use Rattle.quote_plan.specs.ReadSoFar.{ReadingValue, may_come, with_line}
-use Rattle.quote_plan.specs.declared.lines.PlanLine.{PlanLine}
-use Rattle.quote_plan.specs.declared.lines.PlanLine.TheVariants as line
+use Rattle.quote_plan.specs.{[], ℕ, ◌++◌, ◌+◌, ◌<◌, ◌==◌, ◌∷◌, ◌≡◌, ◌≤◌, AreGood, FirstBad, IsSome, IsTrue, List, None, Option, PlanLine, PlanValue, ReadingValue, RefusedAt, SayPlan, Some}
+use Rattle.quote_plan.specs.{cons_option, cut_said, false, filter_map, get_or, is_feed, is_good, length, line_said, lines_of, may_come, may_follow, mode_in, modes_in, offer_in, offers_in}
+use Rattle.quote_plan.specs.{option_to_list, pieces_said, slice_split, take, true, with_line}
+use Rattle.quote_plan.proofs.Words.{◌∙◌, ap, append-nil, append_assoc, arith, below_more, eqb-true, filter_map-append, get_or-append, get_or-append_seam, inl, inr, length-append, length-slice_split}
+use Rattle.quote_plan.proofs.Words.{refl, suc, sym, take-append-le, take-append_seam}
 
 -- the lines of the bytes are those that were read, which are good, and those of the rest
 pub record HasRead (bytes rest : List ℕ) (number : ℕ) (reading : ReadingValue) : Type 0 where
@@ -46,7 +34,7 @@ next_line rest text others cut =
 good_at : (done more : List PlanLine) (k : ℕ) → k < length done → is_good (done ++ more) k ≡ is_good done k
 good_at done more k within =
     let same : take k (done ++ more) ≡ take k done = take-append-le k done more (omega arith) in
-    let here : get_or (done ++ more) k line.BadWord ≡ get_or done k line.BadWord = get_or-append done more line.BadWord k within in
+    let here : get_or (done ++ more) k PlanLine.BadWord ≡ get_or done k PlanLine.BadWord = get_or-append done more PlanLine.BadWord k within in
     rw (same, here) refl
 
 pub still_good : (done more : List PlanLine) (n : ℕ) → n ≤ length done → AreGood done n → AreGood (done ++ more) n
@@ -56,7 +44,7 @@ still_good done more n within good k below = good_at done more k (omega arith) �
 pub seam : (done more : List PlanLine) (said : PlanLine) → is_good (done ++ said ∷ more) (length done) ≡ may_follow (modes_in done) (offers_in done) said
 seam done more said =
     let same : take (length done) (done ++ said ∷ more) ≡ done = take-append_seam done (said ∷ more) in
-    let here : get_or (done ++ said ∷ more) (length done) line.BadWord ≡ said = get_or-append_seam done said more line.BadWord in
+    let here : get_or (done ++ said ∷ more) (length done) PlanLine.BadWord ≡ said = get_or-append_seam done said more PlanLine.BadWord in
     rw (same, here) refl
 
 listed : {A : Type 0} (o : Option A) → cons_option o [] ≡ option_to_list o
@@ -93,7 +81,7 @@ module _ (bytes rest : List ℕ) (number : ℕ) (reading : ReadingValue) (so_far
       before = number;
       within = within;
       good = below_more _ _ good_before (tested ∙ good);
-      offer = rw (all_lines, sym so_far.counted, get_or-append_seam so_far.done said more line.BadWord) offer;
+      offer = rw (all_lines, sym so_far.counted, get_or-append_seam so_far.done said more PlanLine.BadWord) offer;
     }
 
     -- the reading goes on
@@ -137,7 +125,7 @@ left_alone : (rest : List ℕ) → slice_split is_feed rest ≡ rest ∷ [] → 
 unfolding lines_of pieces_said
 left_alone rest alone = ap pieces_said alone
 
-some_cut : (rest : List ℕ) → (length rest == 0) ≡ false → cut_said rest ≡ line.BadWord ∷ []
+some_cut : (rest : List ℕ) → (length rest == 0) ≡ false → cut_said rest ≡ PlanLine.BadWord ∷ []
 some_cut [] some = absurd cc
 some_cut (b ∷ bs) some = refl
 
@@ -146,7 +134,7 @@ none_cut [] none = refl
 none_cut (b ∷ bs) none = absurd (omega (arith, eqb-true (suc (length bs)) 0 none))
 
 -- a line that was cut is a bad word
-pub cut_line : (rest : List ℕ) → slice_split is_feed rest ≡ rest ∷ [] → (length rest == 0) ≡ false → lines_of rest ≡ line.BadWord ∷ []
+pub cut_line : (rest : List ℕ) → slice_split is_feed rest ≡ rest ∷ [] → (length rest == 0) ≡ false → lines_of rest ≡ PlanLine.BadWord ∷ []
 cut_line rest alone some = left_alone rest alone ∙ some_cut rest some
 
 pub no_line : (rest : List ℕ) → slice_split is_feed rest ≡ rest ∷ [] → (length rest == 0) ≡ true → lines_of rest ≡ []

@@ -1,19 +1,7 @@
 -- What is kept of a begun line says what the line says, and why it is bad.
-use Rattle.std.proofs.Common.{◌≡◌, ℕ, zero, suc, ◌+◌, ◌<◌, ◌≤◌, ◌==◌, ◌&&◌, ◌||◌, not, Bool, true, false, Some, None, List, [], ◌∷◌, ◌++◌, length, take, drop, refl, sym, ◌∙◌, ap, arith, subst, nat_lt, Result, Ok, Err}
-use Rattle.std.specs.Prelude.{if◌then◌else◌, unwrap_or, OnOk}
-use Rattle.std.specs.List.{list_any}
-use Rattle.std.proofs.lemmas.List.{append-nil, append_assoc, length-append}
-use Rattle.std.proofs.lemmas.List.Folds.{list_any-append}
-use Rattle.std.proofs.lemmas.Bool.{lt-ltb}
-use Rattle.script_words.specs.Fields.{fields}
-use Rattle.script_words.specs.declared.lines.TheConstants.{LINE_LIMIT}
-use Rattle.quote_plan.specs.Begun.{StandsFor, same, long, has_byte, with_byte}
-use Rattle.quote_plan.specs.PlanLines.{line_said}
-use Rattle.quote_plan.specs.PlanWhys.{is_return, is_tab, why_after, why_of, why_of_bytes}
-use Rattle.quote_plan.specs.declared.whys.PlanWhy.TheVariants as why
-use Rattle.quote_plan.specs.Plans.{Named}
-use Rattle.quote_plan.specs.declared.lines.PlanLine.TheVariants.{BadWord}
-use Rattle.quote_plan.specs.declared.plans.Mode.{Mode}
+use Rattle.quote_plan.specs.{ℕ, ◌<◌, ◌≡◌, BadWord, Bool, LINE_LIMIT, List, Mode, Named, None, PlanWhy, Some, StandsFor, false, fields, if◌then◌else◌, is_return, is_tab, length, line_said, list_any}
+use Rattle.quote_plan.specs.{long, nat_lt, same, true, unwrap_or, why_after, why_of, why_of_bytes}
+use Rattle.quote_plan.proofs.Words.{◌∙◌, ap, lt-ltb, refl, sym}
 
 -- ---- what it says
 
@@ -29,8 +17,8 @@ says_same kept line (same is) = ap line_said is
 says_same kept line (long one other returns tabs) = long_is_bad kept one ∙ sym (long_is_bad line other)
 
 why_alike : (modes : List Mode) (offers : List Named) (kept line : List ℕ) (r t : Bool) →
-    unwrap_or (if r then Some why.CarriageReturn else if t then Some why.Tab else if true then Some why.TooLong else None) (why_after modes offers (fields kept))
-    ≡ unwrap_or (if r then Some why.CarriageReturn else if t then Some why.Tab else if true then Some why.TooLong else None) (why_after modes offers (fields line))
+    unwrap_or (if r then Some PlanWhy.CarriageReturn else if t then Some PlanWhy.Tab else if true then Some PlanWhy.TooLong else None) (why_after modes offers (fields kept))
+    ≡ unwrap_or (if r then Some PlanWhy.CarriageReturn else if t then Some PlanWhy.Tab else if true then Some PlanWhy.TooLong else None) (why_after modes offers (fields line))
 why_alike modes offers kept line true t = refl
 why_alike modes offers kept line false true = refl
 why_alike modes offers kept line false false = refl

@@ -1,17 +1,6 @@
 -- Which answers a plan allows.
-use Rattle.std.specs.Prelude.{◌≡◌, ℕ, ◌<◌, ◌≤◌, ◌≤ℤ◌, ◌<ℤ◌, ◌⊎◌, List, [], ◌∷◌, Option, Some, None, slice_get}
-use Rattle.std.specs.List.{filter_map}
-use Rattle.scope_rules.specs.Ends.{FaultValue}
-use Rattle.scope_rules.specs.declared.types.names.Name.{Name}
-use Rattle.quote_plan.specs.Plans.{Named, PlanValue}
-use Rattle.quote_plan.specs.AnswerText.{answer_text}
-use Rattle.quote_plan.specs.declared.plans.Mode.{Mode}
-use Rattle.quote_plan.specs.declared.plans.Mode.TheVariants as mode
-use Rattle.quote_plan.specs.declared.plans.Offer.{Offer}
-use Rattle.quote_plan.specs.declared.plans.Offer.TheVariants.{Price, Fails}
-use Rattle.quote_plan.specs.declared.answers.Quote.{Quote}
-use Rattle.quote_plan.specs.declared.answers.Answer.{Answer}
-use Rattle.quote_plan.specs.declared.answers.Answer.TheVariants as answer
+use Rattle.quote_plan.specs.Words.{[], ℕ, ◌<ℤ◌, ◌<◌, ◌∷◌, ◌≡◌, ◌≤ℤ◌, ◌≤◌, ◌⊎◌, Answer, Fails, FaultValue, List, Mode, Name, None, Offer, Option, Price, Quote, Some, filter_map, slice_get}
+use Rattle.quote_plan.specs.{AnswerText.answer_text, Plans.Named, Plans.PlanValue}
 
 abbrev pub priced : Name → Offer → Option Quote
 priced name (Price price) = Some (record { name = name; price = price })
@@ -51,28 +40,28 @@ IsBestOf quotes (Some best) = IsBest quotes best
 
 -- in mode `best`: the least price, or that there is none
 abbrev pub AllowedBest : List Named → Answer → Type 0
-AllowedBest offers (answer.Best quote) = IsBest (quotes_in offers) quote
-AllowedBest offers answer.NoPrice = quotes_in offers ≡ []
+AllowedBest offers (Answer.Best quote) = IsBest (quotes_in offers) quote
+AllowedBest offers Answer.NoPrice = quotes_in offers ≡ []
 AllowedBest offers _ = ⊥
 
 -- in mode `all`: the prices of all offers, if all have one, and else any offer that fails
 abbrev pub AllowedAll : List Named → Answer → Type 0
-AllowedAll offers (answer.All quotes) = AllHavePrices offers × (quotes ≡ quotes_in offers)
-AllowedAll offers (answer.Failed name fault) = OneFails offers name fault
+AllowedAll offers (Answer.All quotes) = AllHavePrices offers × (quotes ≡ quotes_in offers)
+AllowedAll offers (Answer.Failed name fault) = OneFails offers name fault
 AllowedAll offers _ = ⊥
 
 -- in mode `first`: any offer with a price, if there is one; else any offer that fails; or that there
 -- are no offers
 abbrev pub AllowedFirst : List Named → Answer → Type 0
-AllowedFirst offers (answer.First quote) = (k : ℕ) × (slice_get (quotes_in offers) k ≡ Some quote)
-AllowedFirst offers (answer.Failed name fault) = (quotes_in offers ≡ []) × OneFails offers name fault
-AllowedFirst offers answer.Empty = offers ≡ []
+AllowedFirst offers (Answer.First quote) = (k : ℕ) × (slice_get (quotes_in offers) k ≡ Some quote)
+AllowedFirst offers (Answer.Failed name fault) = (quotes_in offers ≡ []) × OneFails offers name fault
+AllowedFirst offers Answer.Empty = offers ≡ []
 AllowedFirst offers _ = ⊥
 
 abbrev pub AllowedIn : Mode → List Named → Answer → Type 0
-AllowedIn mode.Best offers a = AllowedBest offers a
-AllowedIn mode.All offers a = AllowedAll offers a
-AllowedIn mode.First offers a = AllowedFirst offers a
+AllowedIn Mode.Best offers a = AllowedBest offers a
+AllowedIn Mode.All offers a = AllowedAll offers a
+AllowedIn Mode.First offers a = AllowedFirst offers a
 
 -- the plan allows the answer
 abbrev pub AllowedAnswer : PlanValue → Answer → Type 0
@@ -99,7 +88,7 @@ HasExpired deadline (Some reading) = deadline ≤ reading
 pub record PartText (plan : PlanValue) (text : List ℕ) : Type 0 where
   pub quotes : List Quote
   pub part : IsPart quotes (quotes_in plan.offers)
-  pub said : text ≡ answer_text (answer.Partial quotes)
+  pub said : text ≡ answer_text (Answer.Partial quotes)
 
 -- the plan with this deadline allows the text, the clock's last reading being this one: what the plan
 -- allows, or some of the prices, once the deadline has passed

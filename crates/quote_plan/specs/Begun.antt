@@ -1,7 +1,5 @@
 -- What is kept of a line that is begun.
-use Rattle.std.specs.Prelude.{◌≡◌, ℕ, ◌<◌, ◌==◌, ◌&&◌, not, Bool, List, [], ◌∷◌, ◌++◌, length, if◌then◌else◌}
-use Rattle.std.specs.List.{list_any}
-use Rattle.script_words.specs.declared.lines.TheConstants.{LINE_LIMIT}
+use Rattle.quote_plan.specs.Words.{[], ℕ, ◌&&◌, ◌++◌, ◌<◌, ◌==◌, ◌∷◌, ◌≡◌, Bool, LINE_LIMIT, List, if◌then◌else◌, length, list_any, not}
 use Rattle.quote_plan.specs.PlanWhys.{is_return, is_tab}
 
 -- what is kept stands for the line: it is the line, or both are too long, and have carriage returns and tabs alike

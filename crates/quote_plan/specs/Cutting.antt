@@ -1,5 +1,5 @@
 -- The lines of a plan.
-use Rattle.std.specs.Prelude.{◌≡◌, ℕ, Bool, false, ◌==◌, ◌++◌, List, ◌∷◌}
+use Rattle.quote_plan.specs.Words.{ℕ, ◌++◌, ◌==◌, ◌∷◌, ◌≡◌, Bool, List, false}
 use Rattle.std.specs.List.{All}
 
 -- the line feed

@@ -1,14 +1,7 @@
 -- How far a plan has been read that comes piece by piece.
-use Rattle.std.specs.Prelude.{◌≡◌, ℕ, ◌+◌, List, ◌++◌, length, map}
-use Rattle.std.specs.List.{slice_split}
-use Rattle.quote_plan.specs.Begun.{StandsFor}
-use Rattle.quote_plan.specs.Cutting.{HasNoFeed, is_feed}
-use Rattle.quote_plan.specs.PlanLines.{line_said}
+use Rattle.quote_plan.specs.Words.{ℕ, ◌++◌, ◌+◌, ◌≡◌, List, Memory, PlanFault, Word, length, map, slice_split}
 use Rattle.quote_plan.specs.PlanReading.{AreGood, FirstBad, lines_of, modes_in, offers_in}
-use Rattle.quote_plan.specs.PlanWhys.{why_at}
-use Rattle.quote_plan.specs.ReadSoFar.{ReadingValue}
-use Rattle.quote_plan.specs.declared.reading.PlanFault.{PlanFault}
-use Rattle.quote_plan.specs.declared.reading.PlanFault.TheVariants.{Word, Memory}
+use Rattle.quote_plan.specs.{Begun.StandsFor, Cutting.HasNoFeed, Cutting.is_feed, PlanLines.line_said, PlanWhys.why_at, ReadSoFar.ReadingValue}
 
 -- what is known of a plan under way: the number of the line that is begun, what the lines before it said, and what is
 -- kept of the begun line

@@ -1,10 +1,6 @@
 -- What a fault in reading a plan says of it.
-use Rattle.std.specs.Prelude.{◌≡◌, ℕ, List}
-use Rattle.quote_plan.specs.PlanReading.{FirstBad, RefusedAt}
-use Rattle.quote_plan.specs.PlanWhys.{why_at}
-use Rattle.quote_plan.specs.declared.lines.PlanLine.{PlanLine}
-use Rattle.quote_plan.specs.declared.reading.PlanFault.{PlanFault}
-use Rattle.quote_plan.specs.declared.reading.PlanFault.TheVariants.{Word, Memory}
+use Rattle.quote_plan.specs.Words.{ℕ, ◌≡◌, List, Memory, PlanFault, PlanLine, Word}
+use Rattle.quote_plan.specs.{PlanReading.FirstBad, PlanReading.RefusedAt, PlanWhys.why_at}
 
 -- a bad word names the first bad line; memory can only be refused for an offer, and no line up to that
 -- one is bad

@@ -1,28 +1,13 @@
 -- What one line of a plan says.
-use Rattle.std.specs.Prelude.{ℕ, ℤ, pos, Bool, ◌||◌, nat_le, nat_lt, List, [], ◌∷◌, length, Option, Some, None, codes, if◌then◌else◌}
-use Rattle.std.specs.Option.{option_or}
-use Rattle.std.specs.Str.{bytes_eq}
-use Rattle.scope_rules.specs.Names.{text_of}
-use Rattle.scope_rules.specs.declared.types.values.Fault.{Fault}
-use Rattle.script_words.specs.Steps.{◌>>=◌}
-use Rattle.script_words.specs.Fields.{fields, just_one, just_two, just_three}
-use Rattle.script_words.specs.Lines.{begins_comment}
-use Rattle.script_words.specs.Numbers.{moment_said}
-use Rattle.script_words.specs.Words.{name_said}
-use Rattle.script_words.specs.declared.lines.TheConstants.{LINE_LIMIT}
-use Rattle.quote_plan.specs.declared.plans.Mode.{Mode}
-use Rattle.quote_plan.specs.declared.plans.Mode.TheVariants as mode
-use Rattle.quote_plan.specs.declared.plans.Offer.TheVariants as offer
-use Rattle.quote_plan.specs.declared.lines.PlanLine.{PlanLine}
-use Rattle.quote_plan.specs.declared.lines.PlanLine.TheVariants as line
-use Rattle.quote_plan.specs.declared.lines.TheConstants.{PRICE_LIMIT}
+use Rattle.quote_plan.specs.Words.{[], ℕ, ℤ, ◌>>=◌, ◌||◌, ◌∷◌, Bool, Fault, LINE_LIMIT, List, Mode, None, Offer, Option, PRICE_LIMIT, PlanLine, Some, begins_comment, bytes_eq, codes, fields}
+use Rattle.quote_plan.specs.Words.{if◌then◌else◌, just_one, just_three, just_two, length, moment_said, name_said, nat_le, nat_lt, option_or, pos, text_of}
 
 -- the mode that the word is
 unfoldable pub mode_said : List ℕ → Option Mode
 mode_said word =
-    if bytes_eq word (codes "best") then Some mode.Best
-    else if bytes_eq word (codes "all") then Some mode.All
-    else if bytes_eq word (codes "first") then Some mode.First
+    if bytes_eq word (codes "best") then Some Mode.Best
+    else if bytes_eq word (codes "all") then Some Mode.All
+    else if bytes_eq word (codes "first") then Some Mode.First
     else None
 
 -- `mode MODE`, without its first word
@@ -30,7 +15,7 @@ unfoldable pub mode_line_said : List (List ℕ) → Option PlanLine
 mode_line_said args = do
   word ← just_one args
   mode ← mode_said word
-  Some (line.Mode mode)
+  Some (PlanLine.Mode mode)
 
 -- a price: a number written as a moment is, at most `PRICE_LIMIT`
 unfoldable pub price_said : List ℕ → Option ℤ
@@ -57,7 +42,7 @@ priced_said args = do
   words ← just_two args
   name ← name_said words.0
   price ← price_said words.1
-  Some (line.Offer name (offer.Price price))
+  Some (PlanLine.Offer name (Offer.Price price))
 
 -- `offer NAME fail FAULT`, without its first word
 unfoldable pub failing_said : List (List ℕ) → Option PlanLine
@@ -65,7 +50,7 @@ failing_said args = do
   words ← just_three args
   name ← name_said words.0
   fault ← fault_said words.2
-  if bytes_eq words.1 (codes "fail") then Some (line.Offer name (offer.Fails fault)) else None
+  if bytes_eq words.1 (codes "fail") then Some (PlanLine.Offer name (Offer.Fails fault)) else None
 
 -- either of the two
 unfoldable pub offer_said : List (List ℕ) → Option PlanLine
@@ -80,14 +65,14 @@ words_said word args =
 
 -- what is in no form is a bad word
 abbrev pub line_of : Option PlanLine → PlanLine
-line_of None = line.BadWord
+line_of None = PlanLine.BadWord
 line_of (Some said) = said
 
 -- no field, or a first one that begins with `#`: nothing is said
 unfoldable pub fields_said : List (List ℕ) → PlanLine
-fields_said [] = line.Silent
-fields_said (word ∷ args) = if begins_comment word then line.Silent else line_of (words_said word args)
+fields_said [] = PlanLine.Silent
+fields_said (word ∷ args) = if begins_comment word then PlanLine.Silent else line_of (words_said word args)
 
 -- the line without its line feed; one that is too long is in no form
 unfoldable pub line_said : List ℕ → PlanLine
-line_said text = if nat_lt LINE_LIMIT (length text) then line.BadWord else fields_said (fields text)
+line_said text = if nat_lt LINE_LIMIT (length text) then PlanLine.BadWord else fields_said (fields text)

@@ -1,20 +1,12 @@
 -- What plan the bytes are, or which line of them is the first bad one.
-use Rattle.std.specs.Prelude.{◌≡◌, ℕ, ◌+◌, ◌<◌, Bool, true, false, not, ◌&&◌, IsTrue, ◌⊎◌, nat_lt, List, [], ◌∷◌, length, take, get_or, Option, Some, None, IsSome}
-use Rattle.std.specs.List.{slice_split, filter_map, list_any}
-use Rattle.scope_rules.specs.Names.{same_name}
-use Rattle.scope_rules.specs.declared.types.names.Name.{Name}
-use Rattle.quote_plan.specs.Cutting.{is_feed}
-use Rattle.quote_plan.specs.Plans.{Named, PlanValue}
-use Rattle.quote_plan.specs.PlanLines.{line_said}
-use Rattle.quote_plan.specs.declared.plans.Mode.{Mode}
-use Rattle.quote_plan.specs.declared.lines.PlanLine.{PlanLine}
-use Rattle.quote_plan.specs.declared.lines.PlanLine.TheVariants as line
-use Rattle.quote_plan.specs.declared.lines.TheConstants.{OFFER_LIMIT}
+use Rattle.quote_plan.specs.Words.{[], ℕ, ◌&&◌, ◌+◌, ◌<◌, ◌∷◌, ◌≡◌, ◌⊎◌, Bool, IsSome, IsTrue, List, Mode, Name, None, OFFER_LIMIT, Option, PlanLine, Some, false, filter_map, get_or, length, list_any}
+use Rattle.quote_plan.specs.Words.{nat_lt, not, same_name, slice_split, take, true}
+use Rattle.quote_plan.specs.{Cutting.is_feed, PlanLines.line_said, Plans.Named, Plans.PlanValue}
 
 -- what is after the last line feed: no line if it is empty, and else a cut one, a bad word
 abbrev pub cut_said : List ℕ → List PlanLine
 cut_said [] = []
-cut_said (b ∷ bs) = line.BadWord ∷ []
+cut_said (b ∷ bs) = PlanLine.BadWord ∷ []
 
 -- what the pieces between line feeds say
 unfoldable pub pieces_said : List (List ℕ) → List PlanLine
@@ -27,11 +19,11 @@ unfoldable pub lines_of : List ℕ → List PlanLine
 lines_of bytes = pieces_said (slice_split is_feed bytes)
 
 abbrev pub mode_in : PlanLine → Option Mode
-mode_in (line.Mode mode) = Some mode
+mode_in (PlanLine.Mode mode) = Some mode
 mode_in _ = None
 
 abbrev pub offer_in : PlanLine → Option Named
-offer_in (line.Offer name offer) = Some (name, offer)
+offer_in (PlanLine.Offer name offer) = Some (name, offer)
 offer_in _ = None
 
 -- the modes that the lines say
@@ -54,14 +46,14 @@ is_named name offers = list_any (λ named. same_name name named.0) offers
 -- an offer comes after it, with a name that no offer before has, and with less than `OFFER_LIMIT` offers
 -- before
 abbrev pub may_follow : List Mode → List Named → PlanLine → Bool
-may_follow modes offers line.Silent = true
-may_follow modes offers (line.Mode mode) = is_none modes
-may_follow modes offers (line.Offer name offer) = not (is_none modes) && (nat_lt (length offers) OFFER_LIMIT && not (is_named name offers))
-may_follow modes offers line.BadWord = false
+may_follow modes offers PlanLine.Silent = true
+may_follow modes offers (PlanLine.Mode mode) = is_none modes
+may_follow modes offers (PlanLine.Offer name offer) = not (is_none modes) && (nat_lt (length offers) OFFER_LIMIT && not (is_named name offers))
+may_follow modes offers PlanLine.BadWord = false
 
 -- whether the line that follows the first n is good; none follows the last one
 abbrev pub is_good : List PlanLine → ℕ → Bool
-is_good lines n = may_follow (modes_in (take n lines)) (offers_in (take n lines)) (get_or lines n line.BadWord)
+is_good lines n = may_follow (modes_in (take n lines)) (offers_in (take n lines)) (get_or lines n PlanLine.BadWord)
 
 -- the first n lines are good
 abbrev pub AreGood : List PlanLine → ℕ → Type 0
@@ -86,4 +78,4 @@ pub record RefusedAt (lines : List PlanLine) : Type 0 where
   pub before : ℕ
   pub within : before < length lines
   pub good : AreGood lines (before + 1)
-  pub offer : IsSome (offer_in (get_or lines before line.BadWord))
+  pub offer : IsSome (offer_in (get_or lines before PlanLine.BadWord))

@@ -1,15 +1,5 @@
 -- What a plan is.
-use Rattle.std.specs.Prelude.{List, Some, Ok, Err, map}
-use Rattle.scope_rules.specs.Ends.{EndValue}
-use Rattle.scope_rules.specs.declared.types.joiners.Policy.{Policy}
-use Rattle.scope_rules.specs.declared.types.joiners.Policy.TheVariants as policy
-use Rattle.scope_rules.specs.declared.types.names.Name.{Name}
-use Rattle.scope_rules.specs.declared.types.values.Label.{Label}
-use Rattle.scope_rules.specs.declared.types.values.Value.TheVariants.{Num}
-use Rattle.quote_plan.specs.declared.plans.Mode.{Mode}
-use Rattle.quote_plan.specs.declared.plans.Mode.TheVariants.{Best, All, First}
-use Rattle.quote_plan.specs.declared.plans.Offer.{Offer}
-use Rattle.quote_plan.specs.declared.plans.Offer.TheVariants.{Price, Fails}
+use Rattle.quote_plan.specs.Words.{All, Best, EndValue, Err, Fails, First, Label, List, Mode, Name, Num, Offer, Ok, Policy, Price, Some, map}
 
 -- an offer with its name
 abbrev pub Named : Type 0
@@ -35,6 +25,6 @@ labels_of plan = map label_of plan.offers
 
 -- the joiner of each mode: `best` waits for all, `all` for all to succeed, `first` for any to
 abbrev pub policy_of : Mode → Policy
-policy_of Best = policy.AwaitAll
-policy_of All = policy.All
-policy_of First = policy.Any
+policy_of Best = Policy.AwaitAll
+policy_of All = Policy.All
+policy_of First = Policy.Any

@@ -1,10 +1,6 @@
 -- What was read so far of a plan.
-use Rattle.std.specs.Prelude.{Bool, List, ◌++◌}
-use Rattle.std.specs.Option.{option_to_list}
-use Rattle.quote_plan.specs.Plans.{Named}
-use Rattle.quote_plan.specs.PlanReading.{mode_in, offer_in, may_follow}
-use Rattle.quote_plan.specs.declared.plans.Mode.{Mode}
-use Rattle.quote_plan.specs.declared.lines.PlanLine.{PlanLine}
+use Rattle.quote_plan.specs.Words.{◌++◌, Bool, List, Mode, PlanLine, option_to_list}
+use Rattle.quote_plan.specs.{PlanReading.may_follow, PlanReading.mode_in, PlanReading.offer_in, Plans.Named}
 
 -- the modes and the offers of the lines so far
 pub record ReadingValue : Type 0 where

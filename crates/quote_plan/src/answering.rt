@@ -1,10 +1,7 @@
 //! The answer that the ends of a plan's jobs make.
 
-ghost use Rattle.std.specs.Prelude.{◌≡◌, [], Some, IsSome, Err, IfOk, MatchResult};
-ghost use Rattle.quote_plan.specs.Allowed.{AllowedBest, quotes_in};
-ghost use Rattle.quote_plan.specs.Answering.{AllowedFor, Answers, AreDue, AreDueSoFar, AreDueValues, IsCancelled, IsLost, IsLostOrMemory, IsNoAnswer, NoneSucceeds, available, failed_answer, first_answer, offer_of};
-ghost use Rattle.quote_plan.specs.declared.answers.Answer.TheVariants as made;
-ghost use Rattle.quote_plan.specs.declared.answering.NoAnswer.TheVariants.{Cancelled};
+ghost use Rattle.quote_plan.specs.{[], ◌≡◌, AllowedBest, AllowedFor, Answer, Answers, AreDue, AreDueSoFar, AreDueValues, Cancelled, Err, IfOk, IsCancelled, IsLost, IsLostOrMemory, IsNoAnswer, IsSome};
+ghost use Rattle.quote_plan.specs.{MatchResult, NoneSucceeds, Some, available, failed_answer, first_answer, offer_of, quotes_in};
 
 use crate::answers::{Answer, Quote};
 use crate::choosing::{best_quote, quotes, quotes_so_far};
@@ -84,7 +81,7 @@ fn best_answer(plan: &Plan, tasks: &[TaskState]) -> Result<Answer, NoAnswer>
 
 /// In mode `all`, if all tasks succeeded.
 fn all_answer(alloc: Global, plan: &Plan, values: &[TaskValue]) -> Result<Answer, NoAnswer>
-    ensures { MatchResult result (λ a. AreDueValues plan.now.offers values.now × (a ≡ made.All (quotes_in plan.now.offers))) (λ e. IsLostOrMemory (AreDueValues plan.now.offers values.now) e) }
+    ensures { MatchResult result (λ a. AreDueValues plan.now.offers values.now × (a ≡ Answer.All (quotes_in plan.now.offers))) (λ e. IsLostOrMemory (AreDueValues plan.now.offers values.now) e) }
 {
     if !are_due_values(plan, values) {
         return Err(NoAnswer::Lost);
@@ -97,7 +94,7 @@ fn all_answer(alloc: Global, plan: &Plan, values: &[TaskValue]) -> Result<Answer
 
 /// After the deadline.
 fn partial_answer(alloc: Global, plan: &Plan, states: &[TaskState]) -> Result<Answer, NoAnswer>
-    ensures { MatchResult result (λ a. AreDueSoFar plan.now.offers states.now × (a ≡ made.Partial (available plan.now.offers states.now))) (λ e. IsLostOrMemory (AreDueSoFar plan.now.offers states.now) e) }
+    ensures { MatchResult result (λ a. AreDueSoFar plan.now.offers states.now × (a ≡ Answer.Partial (available plan.now.offers states.now))) (λ e. IsLostOrMemory (AreDueSoFar plan.now.offers states.now) e) }
 {
     if !are_due_so_far(plan, states) {
         return Err(NoAnswer::Lost);
@@ -125,7 +122,7 @@ fn none_succeeded(
 
 /// In mode `first`, if no task ended.
 fn no_offers(plan: &Plan) -> Result<Answer, NoAnswer>
-    ensures { MatchResult result (λ a. (plan.now.offers ≡ []) × (a ≡ made.Empty)) (λ e. IsLost (plan.now.offers ≡ []) e) }
+    ensures { MatchResult result (λ a. (plan.now.offers ≡ []) × (a ≡ Answer.Empty)) (λ e. IsLost (plan.now.offers ≡ []) e) }
 {
     if plan.is_empty() {
         Ok(Answer::Empty)

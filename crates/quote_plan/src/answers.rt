@@ -1,7 +1,6 @@
 //! What the gateway answers, and the line that says it.
 
-ghost use Rattle.std.specs.Prelude.{◌≡◌, Some, IfOk, string_bytes};
-ghost use Rattle.quote_plan.specs.AnswerText.{answer_text, quotes_text};
+ghost use Rattle.quote_plan.specs.{◌≡◌, IfOk, Some, answer_text, quotes_text, string_bytes};
 
 use scope_rules::{Fault, Name};
 use std::alloc::{AllocError, Global};

@@ -1,9 +1,6 @@
 //! The prices of a plan.
 
-ghost use Rattle.std.specs.Prelude.{◌≡◌, List, [], ◌∷◌, ◌++◌, IfOk, slice_get};
-ghost use Rattle.std.specs.Option.{option_and_then};
-ghost use Rattle.quote_plan.specs.Allowed.{IsBest, IsBestOf, quote_in, quotes_in};
-ghost use Rattle.quote_plan.specs.Answering.{available, quote_there};
+ghost use Rattle.quote_plan.specs.{[], ◌++◌, ◌∷◌, ◌≡◌, IfOk, IsBest, IsBestOf, List, available, option_and_then, quote_in, quote_there, quotes_in, slice_get};
 
 use crate::answers::{Quote, Quotes};
 use crate::ends::is_unavailable;

@@ -1,8 +1,6 @@
 //! Whether tasks ended as their offers say.
 
-ghost use Rattle.std.specs.Prelude.{◌≡◌, ◌==◌, ◌↔◌, ◌⊎◌, Some, IsTrue, position, slice_get};
-ghost use Rattle.quote_plan.specs.Answering.{AreDue, AreDueSoFar, AreDueValues, dues_of, offer_of, state_due};
-ghost use Rattle.scope_rules.specs.declared.types.answers.State.TheVariants.{Unavailable};
+ghost use Rattle.quote_plan.specs.{◌==◌, ◌↔◌, ◌≡◌, ◌⊎◌, AreDue, AreDueSoFar, AreDueValues, IsTrue, Some, Unavailable, dues_of, offer_of, position, slice_get, state_due};
 
 use crate::plans::{Offer, Plan};
 use scope_rules::{Name, State, TaskId, TaskState, TaskValue, Value};

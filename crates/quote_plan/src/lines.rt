@@ -1,8 +1,6 @@
 //! What one line of a plan says.
 
-ghost use Rattle.std.specs.Prelude.{◌≡◌};
-ghost use Rattle.script_words.specs.Fields.{fields};
-ghost use Rattle.quote_plan.specs.PlanLines.{mode_said, mode_line_said, price_said, is_runtime_text, fault_said, priced_said, failing_said, offer_said, words_said, fields_said, line_said};
+ghost use Rattle.quote_plan.specs.{◌≡◌, failing_said, fault_said, fields, fields_said, is_runtime_text, line_said, mode_line_said, mode_said, offer_said, price_said, priced_said, words_said};
 
 use crate::plans::{Mode, Offer};
 use scope_rules::{Fault, Name, is_runtime_fault};

@@ -1,7 +1,6 @@
 //! What a plan is.
 
-ghost use Rattle.std.specs.Prelude.{◌≡◌, ◌↔◌, IsTrue, Some, length, slice_get};
-ghost use Rattle.quote_plan.specs.Plans.{end_of, label_of, labels_of, policy_of};
+ghost use Rattle.quote_plan.specs.{◌↔◌, ◌≡◌, IsTrue, Some, end_of, label_of, labels_of, length, policy_of, slice_get};
 
 use indexmap::IndexMap;
 use scope_rules::{End, Fault, Label, Name, Policy, Value};

@@ -1,10 +1,6 @@
 //! A plan that comes piece by piece.
 
-ghost use Rattle.std.specs.Prelude.{◌≡◌, ◌++◌, ◌∷◌, [], ℕ, List, MatchResult, IfErr, OnOk};
-ghost use Rattle.quote_plan.specs.Begun.{StandsFor};
-ghost use Rattle.quote_plan.specs.Passing.{HasTaken, NamesLine, Passed};
-ghost use Rattle.quote_plan.specs.Cutting.{HasNoFeed};
-ghost use Rattle.quote_plan.specs.PlanReading.{SayPlan, lines_of};
+ghost use Rattle.quote_plan.specs.{[], ℕ, ◌++◌, ◌∷◌, ◌≡◌, HasNoFeed, HasTaken, IfErr, List, MatchResult, NamesLine, OnOk, Passed, SayPlan, StandsFor, lines_of};
 
 use crate::begun::go_on;
 use crate::cutting::first_line;

@@ -1,11 +1,7 @@
 //! How a plan is read.
 
-ghost use Rattle.std.specs.Prelude.{◌≡◌, [], ◌∷◌, ◌++◌, true, false, Ok, IsTrue, IfErr, IfOk, IsSome, OnErr, OnOk, MatchOption, MatchResult};
-ghost use Rattle.quote_plan.specs.PlanReading.{is_named, lines_of, offer_in, SayPlan};
-ghost use Rattle.quote_plan.specs.PlanFaults.{CauseIn, FaultIn};
-ghost use Rattle.quote_plan.specs.PlanWhys.{why_of};
-ghost use Rattle.quote_plan.specs.ReadSoFar.{may_come, with_line};
-ghost use Rattle.quote_plan.specs.declared.lines.PlanLine.TheVariants as said;
+ghost use Rattle.quote_plan.specs.{[], ◌++◌, ◌∷◌, ◌≡◌, CauseIn, FaultIn, IfErr, IfOk, IsSome, IsTrue, MatchOption, MatchResult, Ok, OnErr, OnOk, PlanLine, SayPlan, false, is_named, lines_of};
+ghost use Rattle.quote_plan.specs.{may_come, offer_in, true, why_of, with_line};
 
 use crate::cutting::first_line;
 use crate::lines::{OFFER_LIMIT, PlanLine, plan_line};
@@ -124,8 +120,8 @@ impl Reading {
 
     /// Whether no mode was said yet; if so, it is this one.
     fn take_mode(&mut self, mode: Mode) -> bool
-        ensures tested { result ≡ may_come self.old (said.Mode mode) }
-        ensures taken { IsTrue result → self.new ≡ with_line self.old (said.Mode mode) }
+        ensures tested { result ≡ may_come self.old (PlanLine.Mode mode) }
+        ensures taken { IsTrue result → self.new ≡ with_line self.old (PlanLine.Mode mode) }
         ensures left { result ≡ false → self.new ≡ self.old }
     {
         if self.mode.is_some() {
@@ -137,10 +133,10 @@ impl Reading {
 
     /// Whether this offer may come next; if so, it is taken.
     fn take_offer(&mut self, name: Name, offer: Offer) -> Result<bool, AllocError>
-        ensures tested { IfOk result (λ good. good ≡ may_come self.old (said.Offer name offer)) }
-        ensures taken { result ≡ Ok true → self.new ≡ with_line self.old (said.Offer name offer) }
+        ensures tested { IfOk result (λ good. good ≡ may_come self.old (PlanLine.Offer name offer)) }
+        ensures taken { result ≡ Ok true → self.new ≡ with_line self.old (PlanLine.Offer name offer) }
         ensures left { result ≡ Ok false → self.new ≡ self.old }
-        ensures refused { OnErr result (IsTrue (may_come self.old (said.Offer name offer))) }
+        ensures refused { OnErr result (IsTrue (may_come self.old (PlanLine.Offer name offer))) }
     {
         if self.mode.is_none()
             || self.offers.len() >= OFFER_LIMIT

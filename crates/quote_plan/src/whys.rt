@@ -1,9 +1,6 @@
 //! Why a line of a plan is a bad one.
 
-ghost use Rattle.std.specs.Prelude.{◌≡◌, ◌≤◌, length, is_none, is_some};
-ghost use Rattle.script_words.specs.Fields.{fields};
-ghost use Rattle.quote_plan.specs.PlanLines.{offer_said};
-ghost use Rattle.quote_plan.specs.PlanWhys.{why_of_bytes, why_of_price, why_of_fault, why_of_end, why_of_offer, why_of_fields, words_of};
+ghost use Rattle.quote_plan.specs.{◌≡◌, ◌≤◌, fields, is_none, is_some, length, offer_said, why_of_bytes, why_of_end, why_of_fault, why_of_fields, why_of_offer, why_of_price, words_of};
 
 use crate::lines::{is_made_by_runtime, price};
 use scope_rules::Fault;

@@ -1,22 +1,8 @@
 -- A form calls its fields what its command takes them for.
-use Rattle.std.proofs.Common.{◌≡◌, ◌∙◌, ℕ, Bool, true, false, cond, Option, Some, None, List, [], ◌∷◌, option_map, refl, ap, sym, subst}
-use Rattle.script_words.specs.declared.commands.Command.{Command}
-use Rattle.script_words.specs.declared.keywords.Keyword.{Keyword}
-use Rattle.script_words.specs.declared.keywords.Keyword.TheVariants as keyword
-use Rattle.script_words.specs.declared.keywords.OneNumber.{OneNumber}
-use Rattle.script_words.specs.declared.keywords.OneNumber.TheVariants as one
-use Rattle.script_words.specs.declared.keywords.TwoNumbers.{TwoNumbers}
-use Rattle.script_words.specs.declared.keywords.TwoNumbers.TheVariants as two
-use Rattle.script_words.specs.Steps.{◌>>=◌}
-use Rattle.script_words.specs.Fields.{just_one, just_two, just_three}
-use Rattle.script_words.specs.Forms.{number_alone, two_numbers, fork_said, ok_said, fail_said, move_said, tick_said, bind_said, get_said, one_number_said, two_numbers_said, form_said, new_deadline_said}
-use Rattle.script_words.specs.Numbers.{small_said, moment_said}
-use Rattle.script_words.specs.Openings.{opened, open_said}
-use Rattle.script_words.specs.Words.{name_said, value_said}
-use Rattle.refusal_reasons.specs.declared.shapes.FieldKind.{FieldKind}
-use Rattle.refusal_reasons.specs.declared.shapes.FieldKind.TheVariants as kind
-use Rattle.refusal_reasons.specs.Shapes.{shape_of, kinds}
-use Rattle.refusal_reasons.specs.Called.{actor_of, AreCalled, IsCalled}
+use Rattle.refusal_reasons.specs.{[], ℕ, ◌>>=◌, ◌∷◌, ◌≡◌, AreCalled, Bool, Command, FieldKind, IsCalled, Keyword, List, None, OneNumber, Option, Some, TwoNumbers, actor_of, bind_said, fail_said}
+use Rattle.refusal_reasons.specs.{false, fork_said, form_said, get_said, just_one, just_three, just_two, kinds, moment_said, move_said, name_said, new_deadline_said, number_alone, ok_said}
+use Rattle.refusal_reasons.specs.{one_number_said, open_said, opened, option_map, shape_of, small_said, tick_said, true, two_numbers, two_numbers_said, value_said}
+use Rattle.refusal_reasons.proofs.Lemmas.{◌∙◌, ap, cond, refl, subst, sym}
 
 command_is : (c d : Command) → Some c ≡ Some d → c ≡ d
 command_is c d e = cc
@@ -96,12 +82,12 @@ opened_by n words c is = by _ _ refl is
     by true made so is = sym so ∙ ap actor_of (command_is made c is)
     by false made so is = absurd cc
 
-open_called : (args : List (List ℕ)) (c : Command) → open_said args ≡ Some c → AreCalled (kind.Actor ∷ []) args c
+open_called : (args : List (List ℕ)) (c : Command) → open_said args ≡ Some c → AreCalled (FieldKind.Actor ∷ []) args c
 unfolding open_said
 open_called [] c is = absurd cc
 open_called (a ∷ words) c is = by (small_said a) refl is
   where
-    by : (o : Option ℕ) → small_said a ≡ o → (o >>= (λ n. opened n words)) ≡ Some c → AreCalled (kind.Actor ∷ []) (a ∷ words) c
+    by : (o : Option ℕ) → small_said a ≡ o → (o >>= (λ n. opened n words)) ≡ Some c → AreCalled (FieldKind.Actor ∷ []) (a ∷ words) c
     by None so is = absurd cc
     by (Some n) so is = (so ∙ opened_by n words c is, tt)
 
@@ -109,26 +95,26 @@ open_called (a ∷ words) c is = by (small_said a) refl is
 
 pub form_called : (k : Keyword) (args : List (List ℕ)) (c : Command) → form_said k args ≡ Some c → AreCalled (kinds (shape_of k)) args c
 unfolding form_said fork_said ok_said fail_said move_said tick_said bind_said get_said one_number_said two_numbers_said Takes
-form_called keyword.Open args c is = open_called args c is
-form_called keyword.Fork args c is = three_called small_said small_said name_said _ kind.Actor kind.Scope kind.Name (λ y z w x so. so) (λ x z w y so. so) (λ x y w z so. tt) args c is
-form_called keyword.Succeed args c is = two_called small_said value_said _ kind.Task kind.Value (λ y w x so. so) (λ x w y so. tt) args c is
-form_called keyword.Fail args c is = two_called small_said name_said _ kind.Task kind.Name (λ y w x so. so) (λ x w y so. tt) args c is
-form_called keyword.Move args c is = two_called small_said new_deadline_said _ kind.Scope kind.Deadline (λ y w x so. so) (λ x w y so. tt) args c is
-form_called keyword.Tick args c is = one_called moment_said _ kind.Moment (λ w x so. tt) args c is
-form_called keyword.Bind args c is = three_called small_said name_said value_said _ kind.Actor kind.Name kind.Value (λ y z w x so. so) (λ x z w y so. tt) (λ x y w z so. tt) args c is
-form_called keyword.Get args c is = two_called small_said name_said _ kind.Actor kind.Name (λ y w x so. so) (λ x w y so. tt) args c is
-form_called (keyword.OneNumber one.Reject) args c is = one_number one.Reject kind.Task (λ w n so. so) args c is
-form_called (keyword.OneNumber one.Start) args c is = one_number one.Start kind.Task (λ w n so. so) args c is
-form_called (keyword.OneNumber one.Cancel) args c is = one_number one.Cancel kind.Scope (λ w n so. so) args c is
-form_called (keyword.OneNumber one.Unbind) args c is = one_number one.Unbind kind.Actor (λ w n so. so) args c is
-form_called (keyword.OneNumber one.Retire) args c is = one_number one.Retire kind.Actor (λ w n so. so) args c is
-form_called (keyword.OneNumber one.State) args c is = one_number one.State kind.Task (λ w n so. so) args c is
-form_called (keyword.OneNumber one.Stage) args c is = one_number one.Stage kind.Task (λ w n so. so) args c is
-form_called (keyword.OneNumber one.Cause) args c is = one_number one.Cause kind.Scope (λ w n so. so) args c is
-form_called (keyword.OneNumber one.Until) args c is = one_number one.Until kind.Scope (λ w n so. so) args c is
-form_called (keyword.OneNumber one.Counts) args c is = one_number one.Counts kind.Scope (λ w n so. so) args c is
-form_called (keyword.TwoNumbers two.Join) args c is = two_of two.Join kind.Actor kind.Scope (λ y w x so. so) (λ x w y so. so) args c is
-form_called (keyword.TwoNumbers two.Close) args c is = two_of two.Close kind.Actor kind.Scope (λ y w x so. so) (λ x w y so. so) args c is
-form_called (keyword.TwoNumbers two.Closed) args c is = two_of two.Closed kind.Actor kind.Scope (λ y w x so. so) (λ x w y so. so) args c is
-form_called (keyword.TwoNumbers two.ResultOf) args c is = two_of two.ResultOf kind.Actor kind.Task (λ y w x so. so) (λ x w y so. so) args c is
-form_called (keyword.TwoNumbers two.FaultOf) args c is = two_of two.FaultOf kind.Actor kind.Task (λ y w x so. so) (λ x w y so. so) args c is
+form_called Keyword.Open args c is = open_called args c is
+form_called Keyword.Fork args c is = three_called small_said small_said name_said _ FieldKind.Actor FieldKind.Scope FieldKind.Name (λ y z w x so. so) (λ x z w y so. so) (λ x y w z so. tt) args c is
+form_called Keyword.Succeed args c is = two_called small_said value_said _ FieldKind.Task FieldKind.Value (λ y w x so. so) (λ x w y so. tt) args c is
+form_called Keyword.Fail args c is = two_called small_said name_said _ FieldKind.Task FieldKind.Name (λ y w x so. so) (λ x w y so. tt) args c is
+form_called Keyword.Move args c is = two_called small_said new_deadline_said _ FieldKind.Scope FieldKind.Deadline (λ y w x so. so) (λ x w y so. tt) args c is
+form_called Keyword.Tick args c is = one_called moment_said _ FieldKind.Moment (λ w x so. tt) args c is
+form_called Keyword.Bind args c is = three_called small_said name_said value_said _ FieldKind.Actor FieldKind.Name FieldKind.Value (λ y z w x so. so) (λ x z w y so. tt) (λ x y w z so. tt) args c is
+form_called Keyword.Get args c is = two_called small_said name_said _ FieldKind.Actor FieldKind.Name (λ y w x so. so) (λ x w y so. tt) args c is
+form_called (Keyword.OneNumber OneNumber.Reject) args c is = one_number OneNumber.Reject FieldKind.Task (λ w n so. so) args c is
+form_called (Keyword.OneNumber OneNumber.Start) args c is = one_number OneNumber.Start FieldKind.Task (λ w n so. so) args c is
+form_called (Keyword.OneNumber OneNumber.Cancel) args c is = one_number OneNumber.Cancel FieldKind.Scope (λ w n so. so) args c is
+form_called (Keyword.OneNumber OneNumber.Unbind) args c is = one_number OneNumber.Unbind FieldKind.Actor (λ w n so. so) args c is
+form_called (Keyword.OneNumber OneNumber.Retire) args c is = one_number OneNumber.Retire FieldKind.Actor (λ w n so. so) args c is
+form_called (Keyword.OneNumber OneNumber.State) args c is = one_number OneNumber.State FieldKind.Task (λ w n so. so) args c is
+form_called (Keyword.OneNumber OneNumber.Stage) args c is = one_number OneNumber.Stage FieldKind.Task (λ w n so. so) args c is
+form_called (Keyword.OneNumber OneNumber.Cause) args c is = one_number OneNumber.Cause FieldKind.Scope (λ w n so. so) args c is
+form_called (Keyword.OneNumber OneNumber.Until) args c is = one_number OneNumber.Until FieldKind.Scope (λ w n so. so) args c is
+form_called (Keyword.OneNumber OneNumber.Counts) args c is = one_number OneNumber.Counts FieldKind.Scope (λ w n so. so) args c is
+form_called (Keyword.TwoNumbers TwoNumbers.Join) args c is = two_of TwoNumbers.Join FieldKind.Actor FieldKind.Scope (λ y w x so. so) (λ x w y so. so) args c is
+form_called (Keyword.TwoNumbers TwoNumbers.Close) args c is = two_of TwoNumbers.Close FieldKind.Actor FieldKind.Scope (λ y w x so. so) (λ x w y so. so) args c is
+form_called (Keyword.TwoNumbers TwoNumbers.Closed) args c is = two_of TwoNumbers.Closed FieldKind.Actor FieldKind.Scope (λ y w x so. so) (λ x w y so. so) args c is
+form_called (Keyword.TwoNumbers TwoNumbers.ResultOf) args c is = two_of TwoNumbers.ResultOf FieldKind.Actor FieldKind.Task (λ y w x so. so) (λ x w y so. so) args c is
+form_called (Keyword.TwoNumbers TwoNumbers.FaultOf) args c is = two_of TwoNumbers.FaultOf FieldKind.Actor FieldKind.Task (λ y w x so. so) (λ x w y so. so) args c is

@@ -1,31 +1,12 @@
 -- Which closes cover a scope that is not closed: its own, and those of the unclosed scopes around it by the same owner.
-use Rattle.std.proofs.Common.{◌≡◌, ℕ, ◌+◌, ◌-◌, ◌<◌, ◌≤◌, ◌==◌, ◌&&◌, ◌||◌, Bool, true, false, not, cond, nat_lt, min, Option, Some, None, length, slice_get, IfSome, refl, ap, sym, subst, ◌∙◌, arith, inl, inr, ◌⊎◌}
-use Rattle.std.proofs.lemmas.Bool.{cases_lt, cases_order, both_ways, eqb-true, eq-eqb, lt-ltb, ltb-true}
-use Rattle.std.proofs.lemmas.List.{length-take}
-use Rattle.std.proofs.lemmas.List.Quantifiers.{position-Some}
-use Rattle.std.proofs.lemmas.Option.{same_Some, slice_get_cases, slice_get_within}
-use Rattle.std.specs.Option.{option_and_then, option_map_or}
-use Rattle.scope_rules.specs.declared.types.capacity.Limits.{Limits}
-use Rattle.scope_rules.specs.declared.types.events.Event.{Event}
-use Rattle.scope_rules.specs.declared.types.events.Event.TheVariants.{Tick, BeginClose}
-use Rattle.scope_rules.specs.declared.types.records.Opening.{Opening}
-use Rattle.scope_rules.specs.Search.{earliest}
-use Rattle.scope_rules.specs.History.{History, before, opening, opened_count}
-use Rattle.scope_rules.specs.Legal.{Legal}
-use Rattle.scope_rules.specs.Nests.{outermost, inner, next_unclosed, unclosed_after}
-use Rattle.scope_rules.specs.Owed.{begin_mark, marks}
-use Rattle.scope_rules.specs.Scopes.{closed, closing_at, begins_closing, covers, have_one_opener, unclosed_of}
-use Rattle.scope_rules.proofs.Accepted.{lacks_begin}
-use Rattle.scope_rules.proofs.ClosingOwners.{live_is_unclosed}
-use Rattle.scope_rules.proofs.Earlier.{opening_before, opening_since, opening_within, unclosed_before, before_of_before}
-use Rattle.scope_rules.proofs.InnermostEnds.{opened_first, unclosed_around}
-use Rattle.scope_rules.proofs.Innermosts.{HasUnclosed, opened_after}
-use Rattle.scope_rules.proofs.Nesting.{IsOpened, legal_before}
-use Rattle.scope_rules.proofs.Openings.{and_then_some, if_some}
-use Rattle.scope_rules.proofs.Searching.{earliest_found, earliest_kept, earliest_where}
-use Rattle.scope_rules.proofs.PassedRows.{BeginRow, begin_close_passed}
-use Rattle.refusal_reasons.specs.Places.{begun_place, closing_place, if_after, earlier}
-use Rattle.refusal_reasons.proofs.Searched.{position_found, first_is, first_is_none}
+use Rattle.refusal_reasons.specs.{ℕ, ◌&&◌, ◌+◌, ◌-◌, ◌<◌, ◌==◌, ◌||◌, ◌≡◌, ◌≤◌, BeginClose, Bool, Event, History, IfSome, Legal, Limits, None, Opening, Option, Some, Tick, before, begin_mark}
+use Rattle.refusal_reasons.specs.{begins_closing, begun_place, closed, closing_at, closing_place, covers, earlier, earliest, false, have_one_opener, if_after, inner, length, marks, min, nat_lt}
+use Rattle.refusal_reasons.specs.{next_unclosed, not, opened_count, opening, option_and_then, option_map_or, outermost, slice_get, true, unclosed_after, unclosed_of}
+use Rattle.refusal_reasons.proofs.Lemmas.{◌∙◌, ◌⊎◌, BeginRow, HasUnclosed, IsOpened, and_then_some, ap, arith, before_of_before, begin_close_passed, both_ways, cases_lt, cases_order, cond}
+use Rattle.refusal_reasons.proofs.Lemmas.{earliest_found, earliest_kept, earliest_where, eq-eqb, eqb-true, if_some, inl, inr, lacks_begin, legal_before, length-take, live_is_unclosed, lt-ltb}
+use Rattle.refusal_reasons.proofs.Lemmas.{ltb-true, opened_after, opened_first, opening_before, opening_since, opening_within, position-Some, refl, same_Some, slice_get_cases, slice_get_within, subst}
+use Rattle.refusal_reasons.proofs.Lemmas.{sym, unclosed_around, unclosed_before}
+use Rattle.refusal_reasons.proofs.Searched.{first_is, first_is_none, position_found}
 
 both_true : (b c : Bool) → (b && c) ≡ true → (b ≡ true) × (c ≡ true)
 both_true true true so = (refl, refl)

@@ -1,27 +1,10 @@
 -- What a reason says is so, and what passed before the check failed that it explains.
-use Rattle.std.proofs.Common.{◌≡◌, ℕ, Bool, true, false, not, is_some, Option, Some, None, Ok, Err, IfErr, [], ◌∷◌, refl, ap, sym, subst, ◌∙◌}
-use Rattle.scope_rules.specs.declared.types.answers.State.{State}
-use Rattle.scope_rules.specs.declared.types.answers.State.TheVariants as state_is
-use Rattle.scope_rules.specs.declared.types.capacity.Limits.{Limits}
-use Rattle.scope_rules.specs.declared.types.checks.Failed.{Failed}
-use Rattle.scope_rules.specs.declared.types.events.Event.{Event}
-use Rattle.scope_rules.specs.declared.types.names.Name.{Name}
-use Rattle.scope_rules.specs.Bindings.{bindings, bound_to}
-use Rattle.scope_rules.specs.Checks.{Tried, remade, refuse_if, checks, then_check, known_scope, known_task, known_actor, task_check}
-use Rattle.scope_rules.specs.History.{History}
-use Rattle.scope_rules.specs.Load.{weight}
-use Rattle.scope_rules.specs.Table.{row_check, retire_row, reading_row, until_row, answering}
-use Rattle.scope_rules.specs.Tasks.{stage, state}
-use Rattle.scope_checks.proofs.Remade.{passes_too, task_passes}
-use Rattle.script_words.specs.declared.commands.Query.{Query}
-use Rattle.script_words.specs.declared.commands.Query.TheVariants as query
-use Rattle.refusal_reasons.specs.declared.reasons.Reason.{Reason}
-use Rattle.refusal_reasons.specs.declared.reasons.Reason.TheVariants as reason
-use Rattle.refusal_reasons.specs.declared.reasons.TaskObstacle.TheVariants as task_is
-use Rattle.refusal_reasons.specs.declared.reasons.ActorObstacle.TheVariants as actor_is
-use Rattle.refusal_reasons.specs.Reasons.{Explained, Presupposed, scope_of, reason_of, explained, event_reason, retire_reason, reading_reason, query_reason, shows_value, shows_fault, sees}
-use Rattle.refusal_reasons.specs.Truth.{IsSo, asker, questioner, EventsAreTrue, RetirementsAreTrue, QueriesAreTrue}
-use Rattle.refusal_reasons.proofs.Truth.{Says, IsTrueOf, none_of, forked, forked_in, first_passes, rest_passes, scope_says, task_says, actor_says, event_says, retire_says, reading_says, until_says}
+use Rattle.refusal_reasons.specs.{ℕ, ◌≡◌, ActorObstacle, Bool, Err, Event, EventsAreTrue, Explained, Failed, History, IfErr, IsSo, Limits, Name, Ok, Presupposed, QueriesAreTrue, Query, Reason}
+use Rattle.refusal_reasons.specs.{RetirementsAreTrue, State, TaskObstacle, Tried, answering, asker, bindings, bound_to, checks, event_reason, explained, false, is_some, known_actor, known_scope}
+use Rattle.refusal_reasons.specs.{known_task, not, query_reason, reading_reason, reading_row, reason_of, refuse_if, retire_reason, retire_row, row_check, scope_of, shows_fault, shows_value, stage}
+use Rattle.refusal_reasons.specs.{state, task_check, then_check, true, until_row, weight}
+use Rattle.refusal_reasons.proofs.Lemmas.{ap, passes_too, refl, subst, task_passes}
+use Rattle.refusal_reasons.proofs.Truth.{IsTrueOf, Says, actor_says, event_says, first_passes, forked, forked_in, none_of, reading_says, rest_passes, retire_says, scope_says, task_says, until_says}
 
 -- ---- what passed before
 
@@ -88,32 +71,32 @@ pub reading_known : (L : Limits) (h : History) (a k : ℕ) → reading_reason L 
 reading_known L h a k passes = task_passes (λ f. f) h k (reading_passes L h a k passes)
 
 value_so : (L : Limits) (h : History) (a k : ℕ) → known_task (λ f. f) h k ≡ Ok tt → (x : State) → state h k ≡ x → (r : Reason) → shows_value h k x ≡ Err r → IsSo L h a 0 r
-value_so L h a k there state_is.Unavailable at r is =
+value_so L h a k there State.Unavailable at r is =
     let f = forked h k there in
-    let same : reason.Task k (task_is.Unreadable (scope_of h k) (stage h k)) ≡ r = cc in
+    let same : Reason.Task k (TaskObstacle.Unreadable (scope_of h k) (stage h k)) ≡ r = cc in
     subst (IsSo L h a 0) same (forked_in h k f.0 f.1, refl, at)
-value_so L h a k there (state_is.Success value) at r is = absurd cc
-value_so L h a k there (state_is.Failed fault) at r is = let same : reason.Task k (task_is.Failed fault) ≡ r = cc in subst (IsSo L h a 0) same at
+value_so L h a k there (State.Success value) at r is = absurd cc
+value_so L h a k there (State.Failed fault) at r is = let same : Reason.Task k (TaskObstacle.Failed fault) ≡ r = cc in subst (IsSo L h a 0) same at
 
 fault_so : (L : Limits) (h : History) (a k : ℕ) → known_task (λ f. f) h k ≡ Ok tt → (x : State) → state h k ≡ x → (r : Reason) → shows_fault h k x ≡ Err r → IsSo L h a 0 r
-fault_so L h a k there state_is.Unavailable at r is =
+fault_so L h a k there State.Unavailable at r is =
     let f = forked h k there in
-    let same : reason.Task k (task_is.Unreadable (scope_of h k) (stage h k)) ≡ r = cc in
+    let same : Reason.Task k (TaskObstacle.Unreadable (scope_of h k) (stage h k)) ≡ r = cc in
     subst (IsSo L h a 0) same (forked_in h k f.0 f.1, refl, at)
-fault_so L h a k there (state_is.Success value) at r is = let same : reason.Task k (task_is.Succeeded value) ≡ r = cc in subst (IsSo L h a 0) same at
-fault_so L h a k there (state_is.Failed fault) at r is = absurd cc
+fault_so L h a k there (State.Success value) at r is = let same : Reason.Task k (TaskObstacle.Succeeded value) ≡ r = cc in subst (IsSo L h a 0) same at
+fault_so L h a k there (State.Failed fault) at r is = absurd cc
 
-sees_so : (L : Limits) (h : History) (a : ℕ) (key : Name) (b : Bool) → not (is_some (bound_to key (bindings h a))) ≡ b → (r : Reason) → refuse_if b (reason.Actor a (actor_is.Unbound key)) ≡ Err r → IsSo L h a 0 r
-sees_so L h a key true e r is = let same : reason.Actor a (actor_is.Unbound key) ≡ r = cc in subst (IsSo L h a 0) same (refl, none_of (bound_to key (bindings h a)) e)
+sees_so : (L : Limits) (h : History) (a : ℕ) (key : Name) (b : Bool) → not (is_some (bound_to key (bindings h a))) ≡ b → (r : Reason) → refuse_if b (Reason.Actor a (ActorObstacle.Unbound key)) ≡ Err r → IsSo L h a 0 r
+sees_so L h a key true e r is = let same : Reason.Actor a (ActorObstacle.Unbound key) ≡ r = cc in subst (IsSo L h a 0) same (refl, none_of (bound_to key (bindings h a)) e)
 sees_so L h a key false e r is = absurd cc
 
 pub queries_true : QueriesAreTrue
 unfolding query_reason
-queries_true L h (query.State task) r is = said_so L h 0 0 _ (task_says L h 0 0 task) r is
-queries_true L h (query.Stage task) r is = said_so L h 0 0 _ (task_says L h 0 0 task) r is
-queries_true L h (query.Result actor task) r is = then_so (IsSo L h actor 0) _ _ (said_so L h actor 0 _ (reading_says L h actor task)) (λ passes. value_so L h actor task (reading_passes L h actor task passes) (state h task) refl) r is
-queries_true L h (query.Fault actor task) r is = then_so (IsSo L h actor 0) _ _ (said_so L h actor 0 _ (reading_says L h actor task)) (λ passes. fault_so L h actor task (reading_passes L h actor task passes) (state h task) refl) r is
-queries_true L h (query.Cause scope) r is = said_so L h 0 0 _ (scope_says L h 0 0 scope) r is
-queries_true L h (query.Until scope) r is = said_so L h 0 0 _ (until_says L h scope) r is
-queries_true L h (query.Counts scope) r is = said_so L h 0 0 _ (scope_says L h 0 0 scope) r is
-queries_true L h (query.Get actor key) r is = then_so (IsSo L h actor 0) _ _ (said_so L h actor 0 _ (actor_says L h actor 0)) (λ _. sees_so L h actor key _ refl) r is
+queries_true L h (Query.State task) r is = said_so L h 0 0 _ (task_says L h 0 0 task) r is
+queries_true L h (Query.Stage task) r is = said_so L h 0 0 _ (task_says L h 0 0 task) r is
+queries_true L h (Query.Result actor task) r is = then_so (IsSo L h actor 0) _ _ (said_so L h actor 0 _ (reading_says L h actor task)) (λ passes. value_so L h actor task (reading_passes L h actor task passes) (state h task) refl) r is
+queries_true L h (Query.Fault actor task) r is = then_so (IsSo L h actor 0) _ _ (said_so L h actor 0 _ (reading_says L h actor task)) (λ passes. fault_so L h actor task (reading_passes L h actor task passes) (state h task) refl) r is
+queries_true L h (Query.Cause scope) r is = said_so L h 0 0 _ (scope_says L h 0 0 scope) r is
+queries_true L h (Query.Until scope) r is = said_so L h 0 0 _ (until_says L h scope) r is
+queries_true L h (Query.Counts scope) r is = said_so L h 0 0 _ (scope_says L h 0 0 scope) r is
+queries_true L h (Query.Get actor key) r is = then_so (IsSo L h actor 0) _ _ (said_so L h actor 0 _ (actor_says L h actor 0)) (λ _. sees_so L h actor key _ refl) r is

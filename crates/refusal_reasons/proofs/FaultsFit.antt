@@ -1,31 +1,10 @@
 -- A line has a fault just where it is a bad word.
-use Rattle.std.proofs.Common.{◌≡◌, ℕ, ◌+◌, Bool, true, false, not, cond, is_some, nat_lt, Option, Some, None, List, [], ◌∷◌, length, option_map, refl, ap, sym, ◌∙◌}
-use Rattle.script_words.specs.declared.commands.Command.{Command}
-use Rattle.script_words.specs.declared.commands.Line.TheVariants as line
-use Rattle.script_words.specs.declared.keywords.Keyword.{Keyword}
-use Rattle.script_words.specs.declared.keywords.Keyword.TheVariants as keyword
-use Rattle.script_words.specs.declared.keywords.OneNumber.{OneNumber}
-use Rattle.script_words.specs.declared.keywords.OneNumber.TheVariants as one
-use Rattle.script_words.specs.declared.keywords.TwoNumbers.{TwoNumbers}
-use Rattle.script_words.specs.declared.keywords.TwoNumbers.TheVariants as two
-use Rattle.script_words.specs.declared.lines.TheConstants.{LINE_LIMIT}
-use Rattle.script_words.specs.Steps.{◌>>=◌}
-use Rattle.script_words.specs.Fields.{fields, just_one, just_two, just_three}
-use Rattle.script_words.specs.Forms.{number_alone, two_numbers, fork_said, ok_said, fail_said, move_said, tick_said, bind_said, get_said, one_number_said, two_numbers_said, form_said, new_deadline_said}
-use Rattle.script_words.specs.Keywords.{keyword_said}
-use Rattle.script_words.specs.Lines.{command_said, line_of, begins_comment, fields_said, line_said}
-use Rattle.script_words.specs.Numbers.{small_said, moment_said}
-use Rattle.script_words.specs.Openings.{opened, open_said, is_empty}
-use Rattle.script_words.specs.Words.{name_said, value_said}
-use Rattle.refusal_reasons.specs.declared.faults.WordFault.{WordFault}
-use Rattle.refusal_reasons.specs.declared.faults.WordFault.TheVariants as fault
-use Rattle.refusal_reasons.specs.declared.shapes.FieldKind.{FieldKind}
-use Rattle.refusal_reasons.specs.declared.shapes.FieldKind.TheVariants as kind
-use Rattle.refusal_reasons.specs.declared.shapes.Shape.{Shape}
-use Rattle.refusal_reasons.specs.declared.shapes.Shape.TheVariants as shape
-use Rattle.refusal_reasons.specs.Shapes.{shape_of}
-use Rattle.refusal_reasons.specs.Faults.{is_kind, misfit, left_over, options_taken, stray_fault, open_fault, shape_fault, form_fault, fields_fault, fault_of}
-use Rattle.refusal_reasons.specs.FaultFits.{is_bad}
+use Rattle.refusal_reasons.specs.{[], ℕ, ◌+◌, ◌>>=◌, ◌∷◌, ◌≡◌, Bool, Command, FieldKind, Keyword, LINE_LIMIT, Line, List, None, OneNumber, Option, Shape, Some, TwoNumbers, WordFault, begins_comment}
+use Rattle.refusal_reasons.specs.{bind_said, command_said, fail_said, false, fault_of, fields, fields_fault, fields_said, fork_said, form_fault, form_said, get_said, is_bad, is_empty, is_kind}
+use Rattle.refusal_reasons.specs.{is_some, just_one, just_three, just_two, keyword_said, left_over, length, line_of, line_said, misfit, moment_said, move_said, name_said, nat_lt, new_deadline_said}
+use Rattle.refusal_reasons.specs.{not, number_alone, ok_said, one_number_said, open_fault, open_said, opened, option_map, options_taken, shape_fault, shape_of, small_said, stray_fault, tick_said}
+use Rattle.refusal_reasons.specs.{true, two_numbers, two_numbers_said, value_said}
+use Rattle.refusal_reasons.proofs.Lemmas.{◌∙◌, ap, cond, refl, sym}
 
 -- ---- what is found or not
 
@@ -69,32 +48,32 @@ mapped f (Some x) = refl
 one_field : {A : Type 0} (said : List ℕ → Option A) (s : Shape) (k : FieldKind) → Tells k said → (args : List (List ℕ)) → not (is_some (just_one args >>= said)) ≡ is_some (misfit s 0 (k ∷ []) args)
 unfolding Tells just_one misfit
 one_field said s k tells [] = refl
-one_field said s k tells (a ∷ []) = one_by (said a) (fault.Wrong s 0 k) ∙ ap (λ t. is_some (cond t None (Some (fault.Wrong s 0 k)))) (sym (tells a))
-one_field said s k tells (a ∷ b ∷ others) = in_any_case (is_kind k a) (fault.Extra s (0 + 1)) (fault.Wrong s 0 k)
+one_field said s k tells (a ∷ []) = one_by (said a) (WordFault.Wrong s 0 k) ∙ ap (λ t. is_some (cond t None (Some (WordFault.Wrong s 0 k)))) (sym (tells a))
+one_field said s k tells (a ∷ b ∷ others) = in_any_case (is_kind k a) (WordFault.Extra s (0 + 1)) (WordFault.Wrong s 0 k)
 
 two_fields : {A B C : Type 0} (said : List ℕ → Option A) (also : List ℕ → Option B) (f : A → B → C) (s : Shape) (k l : FieldKind) → Tells k said → Tells l also → (args : List (List ℕ)) →
     not (is_some (just_two args >>= (λ ws. said ws.0 >>= (λ a. also ws.1 >>= (λ b. Some (f a b)))))) ≡ is_some (misfit s 0 (k ∷ l ∷ []) args)
 unfolding Tells just_two misfit
 two_fields said also f s k l tells tell [] = refl
-two_fields said also f s k l tells tell (a ∷ []) = in_any_case (is_kind k a) (fault.Missing s l) (fault.Wrong s 0 k)
+two_fields said also f s k l tells tell (a ∷ []) = in_any_case (is_kind k a) (WordFault.Missing s l) (WordFault.Wrong s 0 k)
 two_fields said also f s k l tells tell (a ∷ b ∷ []) =
-    two_by (said a) (also b) f (fault.Wrong s 0 k) (fault.Wrong s (0 + 1) l)
-    ∙ (ap (λ t. is_some (cond t (cond (is_some (also b)) None (Some (fault.Wrong s (0 + 1) l))) (Some (fault.Wrong s 0 k)))) (sym (tells a))
-    ∙ ap (λ t. is_some (cond (is_kind k a) (cond t None (Some (fault.Wrong s (0 + 1) l))) (Some (fault.Wrong s 0 k)))) (sym (tell b)))
-two_fields said also f s k l tells tell (a ∷ b ∷ c ∷ others) = in_any_case_more (is_kind k a) (is_kind l b) (fault.Extra s (0 + 1 + 1)) (fault.Wrong s (0 + 1) l) (fault.Wrong s 0 k)
+    two_by (said a) (also b) f (WordFault.Wrong s 0 k) (WordFault.Wrong s (0 + 1) l)
+    ∙ (ap (λ t. is_some (cond t (cond (is_some (also b)) None (Some (WordFault.Wrong s (0 + 1) l))) (Some (WordFault.Wrong s 0 k)))) (sym (tells a))
+    ∙ ap (λ t. is_some (cond (is_kind k a) (cond t None (Some (WordFault.Wrong s (0 + 1) l))) (Some (WordFault.Wrong s 0 k)))) (sym (tell b)))
+two_fields said also f s k l tells tell (a ∷ b ∷ c ∷ others) = in_any_case_more (is_kind k a) (is_kind l b) (WordFault.Extra s (0 + 1 + 1)) (WordFault.Wrong s (0 + 1) l) (WordFault.Wrong s 0 k)
 
 three_fields : {A B C D : Type 0} (said : List ℕ → Option A) (also : List ℕ → Option B) (more : List ℕ → Option C) (f : A → B → C → D) (s : Shape) (k l m : FieldKind) → Tells k said → Tells l also → Tells m more → (args : List (List ℕ)) →
     not (is_some (just_three args >>= (λ ws. said ws.0 >>= (λ a. also ws.1 >>= (λ b. more ws.2 >>= (λ c. Some (f a b c))))))) ≡ is_some (misfit s 0 (k ∷ l ∷ m ∷ []) args)
 unfolding Tells just_three misfit
 three_fields said also more f s k l m tells tell tell' [] = refl
-three_fields said also more f s k l m tells tell tell' (a ∷ []) = in_any_case (is_kind k a) (fault.Missing s l) (fault.Wrong s 0 k)
-three_fields said also more f s k l m tells tell tell' (a ∷ b ∷ []) = in_any_case_more (is_kind k a) (is_kind l b) (fault.Missing s m) (fault.Wrong s (0 + 1) l) (fault.Wrong s 0 k)
+three_fields said also more f s k l m tells tell tell' (a ∷ []) = in_any_case (is_kind k a) (WordFault.Missing s l) (WordFault.Wrong s 0 k)
+three_fields said also more f s k l m tells tell tell' (a ∷ b ∷ []) = in_any_case_more (is_kind k a) (is_kind l b) (WordFault.Missing s m) (WordFault.Wrong s (0 + 1) l) (WordFault.Wrong s 0 k)
 three_fields said also more f s k l m tells tell tell' (a ∷ b ∷ c ∷ []) =
-    three_by (said a) (also b) (more c) f (fault.Wrong s 0 k) (fault.Wrong s (0 + 1) l) (fault.Wrong s (0 + 1 + 1) m)
-    ∙ (ap (λ t. is_some (cond t (cond (is_some (also b)) (cond (is_some (more c)) None (Some (fault.Wrong s (0 + 1 + 1) m))) (Some (fault.Wrong s (0 + 1) l))) (Some (fault.Wrong s 0 k)))) (sym (tells a))
-    ∙ (ap (λ t. is_some (cond (is_kind k a) (cond t (cond (is_some (more c)) None (Some (fault.Wrong s (0 + 1 + 1) m))) (Some (fault.Wrong s (0 + 1) l))) (Some (fault.Wrong s 0 k)))) (sym (tell b))
-    ∙ ap (λ t. is_some (cond (is_kind k a) (cond (is_kind l b) (cond t None (Some (fault.Wrong s (0 + 1 + 1) m))) (Some (fault.Wrong s (0 + 1) l))) (Some (fault.Wrong s 0 k)))) (sym (tell' c))))
-three_fields said also more f s k l m tells tell tell' (a ∷ b ∷ c ∷ d ∷ others) = in_any_case_most (is_kind k a) (is_kind l b) (is_kind m c) (fault.Extra s (0 + 1 + 1 + 1)) (fault.Wrong s (0 + 1 + 1) m) (fault.Wrong s (0 + 1) l) (fault.Wrong s 0 k)
+    three_by (said a) (also b) (more c) f (WordFault.Wrong s 0 k) (WordFault.Wrong s (0 + 1) l) (WordFault.Wrong s (0 + 1 + 1) m)
+    ∙ (ap (λ t. is_some (cond t (cond (is_some (also b)) (cond (is_some (more c)) None (Some (WordFault.Wrong s (0 + 1 + 1) m))) (Some (WordFault.Wrong s (0 + 1) l))) (Some (WordFault.Wrong s 0 k)))) (sym (tells a))
+    ∙ (ap (λ t. is_some (cond (is_kind k a) (cond t (cond (is_some (more c)) None (Some (WordFault.Wrong s (0 + 1 + 1) m))) (Some (WordFault.Wrong s (0 + 1) l))) (Some (WordFault.Wrong s 0 k)))) (sym (tell b))
+    ∙ ap (λ t. is_some (cond (is_kind k a) (cond (is_kind l b) (cond t None (Some (WordFault.Wrong s (0 + 1 + 1) m))) (Some (WordFault.Wrong s (0 + 1) l))) (Some (WordFault.Wrong s 0 k)))) (sym (tell' c))))
+three_fields said also more f s k l m tells tell tell' (a ∷ b ∷ c ∷ d ∷ others) = in_any_case_most (is_kind k a) (is_kind l b) (is_kind m c) (WordFault.Extra s (0 + 1 + 1 + 1)) (WordFault.Wrong s (0 + 1 + 1) m) (WordFault.Wrong s (0 + 1) l) (WordFault.Wrong s 0 k)
 
 -- ---- the form of `open`
 
@@ -102,7 +81,7 @@ empty_by : {A : Type 0} (n : ℕ) (l : List (List ℕ)) (x : A) → not (is_some
 empty_by n [] x = refl
 empty_by n (w ∷ ws) x = refl
 
-open_by : (o : Option ℕ) (words : List (List ℕ)) → not (is_some (o >>= (λ n. opened n words))) ≡ is_some (cond (is_some o) (stray_fault (1 + options_taken words) (left_over words)) (Some (fault.Wrong shape.Open 0 kind.Actor)))
+open_by : (o : Option ℕ) (words : List (List ℕ)) → not (is_some (o >>= (λ n. opened n words))) ≡ is_some (cond (is_some o) (stray_fault (1 + options_taken words) (left_over words)) (Some (WordFault.Wrong Shape.Open 0 FieldKind.Actor)))
 unfolding opened left_over
 open_by None words = refl
 open_by (Some n) words = empty_by (1 + options_taken words) (left_over words) _
@@ -122,59 +101,59 @@ two_fit : (k : TwoNumbers) (s : Shape) (l m : FieldKind) → Tells l small_said 
 unfolding two_numbers
 two_fit k s l m tells tell args = ap not (mapped (λ n. two_numbers_said k n.0 n.1) _) ∙ two_fields small_said small_said (λ a b. (a, b)) s l m tells tell args
 
-tells_actor : Tells kind.Actor small_said
+tells_actor : Tells FieldKind.Actor small_said
 unfolding Tells
 tells_actor word = refl
 
-tells_scope : Tells kind.Scope small_said
+tells_scope : Tells FieldKind.Scope small_said
 unfolding Tells
 tells_scope word = refl
 
-tells_task : Tells kind.Task small_said
+tells_task : Tells FieldKind.Task small_said
 unfolding Tells
 tells_task word = refl
 
-tells_moment : Tells kind.Moment moment_said
+tells_moment : Tells FieldKind.Moment moment_said
 unfolding Tells
 tells_moment word = refl
 
-tells_deadline : Tells kind.Deadline new_deadline_said
+tells_deadline : Tells FieldKind.Deadline new_deadline_said
 unfolding Tells
 tells_deadline word = refl
 
-tells_name : Tells kind.Name name_said
+tells_name : Tells FieldKind.Name name_said
 unfolding Tells
 tells_name word = refl
 
-tells_value : Tells kind.Value value_said
+tells_value : Tells FieldKind.Value value_said
 unfolding Tells
 tells_value word = refl
 
 form_fits : (k : Keyword) (args : List (List ℕ)) → not (is_some (form_said k args)) ≡ is_some (shape_fault (shape_of k) args)
 unfolding form_said fork_said ok_said fail_said move_said tick_said bind_said get_said
-form_fits keyword.Open args = open_fits args
-form_fits keyword.Fork args = three_fields small_said small_said name_said _ shape.Fork kind.Actor kind.Scope kind.Name tells_actor tells_scope tells_name args
-form_fits keyword.Succeed args = two_fields small_said value_said _ shape.Succeed kind.Task kind.Value tells_task tells_value args
-form_fits keyword.Fail args = two_fields small_said name_said _ shape.Fail kind.Task kind.Name tells_task tells_name args
-form_fits keyword.Move args = two_fields small_said new_deadline_said _ shape.Move kind.Scope kind.Deadline tells_scope tells_deadline args
-form_fits keyword.Tick args = ap not (mapped _ (just_one args >>= moment_said)) ∙ one_field moment_said shape.Tick kind.Moment tells_moment args
-form_fits keyword.Bind args = three_fields small_said name_said value_said _ shape.Bind kind.Actor kind.Name kind.Value tells_actor tells_name tells_value args
-form_fits keyword.Get args = two_fields small_said name_said _ shape.Get kind.Actor kind.Name tells_actor tells_name args
-form_fits (keyword.OneNumber one.Reject) args = one_fits one.Reject shape.Task kind.Task tells_task args
-form_fits (keyword.OneNumber one.Start) args = one_fits one.Start shape.Task kind.Task tells_task args
-form_fits (keyword.OneNumber one.Cancel) args = one_fits one.Cancel shape.Scope kind.Scope tells_scope args
-form_fits (keyword.OneNumber one.Unbind) args = one_fits one.Unbind shape.Actor kind.Actor tells_actor args
-form_fits (keyword.OneNumber one.Retire) args = one_fits one.Retire shape.Actor kind.Actor tells_actor args
-form_fits (keyword.OneNumber one.State) args = one_fits one.State shape.Task kind.Task tells_task args
-form_fits (keyword.OneNumber one.Stage) args = one_fits one.Stage shape.Task kind.Task tells_task args
-form_fits (keyword.OneNumber one.Cause) args = one_fits one.Cause shape.Scope kind.Scope tells_scope args
-form_fits (keyword.OneNumber one.Until) args = one_fits one.Until shape.Scope kind.Scope tells_scope args
-form_fits (keyword.OneNumber one.Counts) args = one_fits one.Counts shape.Scope kind.Scope tells_scope args
-form_fits (keyword.TwoNumbers two.Join) args = two_fit two.Join shape.ActorScope kind.Actor kind.Scope tells_actor tells_scope args
-form_fits (keyword.TwoNumbers two.Close) args = two_fit two.Close shape.ActorScope kind.Actor kind.Scope tells_actor tells_scope args
-form_fits (keyword.TwoNumbers two.Closed) args = two_fit two.Closed shape.ActorScope kind.Actor kind.Scope tells_actor tells_scope args
-form_fits (keyword.TwoNumbers two.ResultOf) args = two_fit two.ResultOf shape.ActorTask kind.Actor kind.Task tells_actor tells_task args
-form_fits (keyword.TwoNumbers two.FaultOf) args = two_fit two.FaultOf shape.ActorTask kind.Actor kind.Task tells_actor tells_task args
+form_fits Keyword.Open args = open_fits args
+form_fits Keyword.Fork args = three_fields small_said small_said name_said _ Shape.Fork FieldKind.Actor FieldKind.Scope FieldKind.Name tells_actor tells_scope tells_name args
+form_fits Keyword.Succeed args = two_fields small_said value_said _ Shape.Succeed FieldKind.Task FieldKind.Value tells_task tells_value args
+form_fits Keyword.Fail args = two_fields small_said name_said _ Shape.Fail FieldKind.Task FieldKind.Name tells_task tells_name args
+form_fits Keyword.Move args = two_fields small_said new_deadline_said _ Shape.Move FieldKind.Scope FieldKind.Deadline tells_scope tells_deadline args
+form_fits Keyword.Tick args = ap not (mapped _ (just_one args >>= moment_said)) ∙ one_field moment_said Shape.Tick FieldKind.Moment tells_moment args
+form_fits Keyword.Bind args = three_fields small_said name_said value_said _ Shape.Bind FieldKind.Actor FieldKind.Name FieldKind.Value tells_actor tells_name tells_value args
+form_fits Keyword.Get args = two_fields small_said name_said _ Shape.Get FieldKind.Actor FieldKind.Name tells_actor tells_name args
+form_fits (Keyword.OneNumber OneNumber.Reject) args = one_fits OneNumber.Reject Shape.Task FieldKind.Task tells_task args
+form_fits (Keyword.OneNumber OneNumber.Start) args = one_fits OneNumber.Start Shape.Task FieldKind.Task tells_task args
+form_fits (Keyword.OneNumber OneNumber.Cancel) args = one_fits OneNumber.Cancel Shape.Scope FieldKind.Scope tells_scope args
+form_fits (Keyword.OneNumber OneNumber.Unbind) args = one_fits OneNumber.Unbind Shape.Actor FieldKind.Actor tells_actor args
+form_fits (Keyword.OneNumber OneNumber.Retire) args = one_fits OneNumber.Retire Shape.Actor FieldKind.Actor tells_actor args
+form_fits (Keyword.OneNumber OneNumber.State) args = one_fits OneNumber.State Shape.Task FieldKind.Task tells_task args
+form_fits (Keyword.OneNumber OneNumber.Stage) args = one_fits OneNumber.Stage Shape.Task FieldKind.Task tells_task args
+form_fits (Keyword.OneNumber OneNumber.Cause) args = one_fits OneNumber.Cause Shape.Scope FieldKind.Scope tells_scope args
+form_fits (Keyword.OneNumber OneNumber.Until) args = one_fits OneNumber.Until Shape.Scope FieldKind.Scope tells_scope args
+form_fits (Keyword.OneNumber OneNumber.Counts) args = one_fits OneNumber.Counts Shape.Scope FieldKind.Scope tells_scope args
+form_fits (Keyword.TwoNumbers TwoNumbers.Join) args = two_fit TwoNumbers.Join Shape.ActorScope FieldKind.Actor FieldKind.Scope tells_actor tells_scope args
+form_fits (Keyword.TwoNumbers TwoNumbers.Close) args = two_fit TwoNumbers.Close Shape.ActorScope FieldKind.Actor FieldKind.Scope tells_actor tells_scope args
+form_fits (Keyword.TwoNumbers TwoNumbers.Closed) args = two_fit TwoNumbers.Closed Shape.ActorScope FieldKind.Actor FieldKind.Scope tells_actor tells_scope args
+form_fits (Keyword.TwoNumbers TwoNumbers.ResultOf) args = two_fit TwoNumbers.ResultOf Shape.ActorTask FieldKind.Actor FieldKind.Task tells_actor tells_task args
+form_fits (Keyword.TwoNumbers TwoNumbers.FaultOf) args = two_fit TwoNumbers.FaultOf Shape.ActorTask FieldKind.Actor FieldKind.Task tells_actor tells_task args
 
 -- ---- lines
 
@@ -191,7 +170,7 @@ unfolding fields_said fields_fault command_said
 fields_fit [] = refl
 fields_fit (word ∷ args) = by (begins_comment word) (word_fits args (keyword_said word))
   where
-    by : (b : Bool) → is_bad (line_of (keyword_said word >>= (λ k. form_said k args))) ≡ is_some (form_fault (option_map shape_of (keyword_said word)) args) → is_bad (cond b line.Silent (line_of (keyword_said word >>= (λ k. form_said k args)))) ≡ is_some (cond b None (form_fault (option_map shape_of (keyword_said word)) args))
+    by : (b : Bool) → is_bad (line_of (keyword_said word >>= (λ k. form_said k args))) ≡ is_some (form_fault (option_map shape_of (keyword_said word)) args) → is_bad (cond b Line.Silent (line_of (keyword_said word >>= (λ k. form_said k args)))) ≡ is_some (cond b None (form_fault (option_map shape_of (keyword_said word)) args))
     by true so = refl
     by false so = so
 
@@ -199,6 +178,6 @@ pub faults_fit : (text : List ℕ) → is_bad (line_said text) ≡ is_some (faul
 unfolding line_said fault_of
 faults_fit text = by (nat_lt LINE_LIMIT (length text)) (fields_fit (fields text))
   where
-    by : (b : Bool) → is_bad (fields_said (fields text)) ≡ is_some (fields_fault (fields text)) → is_bad (cond b line.BadWord (fields_said (fields text))) ≡ is_some (cond b (Some (fault.TooLong (length text))) (fields_fault (fields text)))
+    by : (b : Bool) → is_bad (fields_said (fields text)) ≡ is_some (fields_fault (fields text)) → is_bad (cond b Line.BadWord (fields_said (fields text))) ≡ is_some (cond b (Some (WordFault.TooLong (length text))) (fields_fault (fields text)))
     by true so = refl
     by false so = so

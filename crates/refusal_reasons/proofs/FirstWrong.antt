@@ -1,23 +1,9 @@
 -- A fault names the first field that is wrong.
-use Rattle.std.proofs.Common.{◌≡◌, ◌∙◌, ℕ, ◌+◌, Bool, true, false, cond, is_some, nat_lt, Option, Some, None, List, [], ◌∷◌, ◌++◌, length, option_map, refl, ap, sym, subst, arith, append_assoc, append-nil, length-append, codes}
-use Rattle.std.specs.Str.{bytes_eq}
-use Rattle.std.proofs.lemmas.Bool.{ltb-true}
-use Rattle.script_words.specs.declared.lines.TheConstants.{LINE_LIMIT}
-use Rattle.script_words.specs.Fields.{fields}
-use Rattle.script_words.specs.Joiners.{policy_said}
-use Rattle.script_words.specs.Keywords.{keyword_said}
-use Rattle.script_words.specs.Lines.{begins_comment}
-use Rattle.script_words.specs.Openings.{deadline_said, deadline_next, flag_next, flag_said, found_or, next_said, policy_next}
-use Rattle.scope_rules.specs.declared.types.joiners.Policy.TheVariants.{AwaitOk}
-use Rattle.refusal_reasons.specs.declared.faults.WordFault.{WordFault}
-use Rattle.refusal_reasons.specs.declared.faults.WordFault.TheVariants as fault
-use Rattle.refusal_reasons.specs.declared.shapes.FieldKind.{FieldKind}
-use Rattle.refusal_reasons.specs.declared.shapes.FieldKind.TheVariants as kind
-use Rattle.refusal_reasons.specs.declared.shapes.Shape.{Shape}
-use Rattle.refusal_reasons.specs.declared.shapes.Shape.TheVariants as shape
-use Rattle.refusal_reasons.specs.Shapes.{shape_of, kinds}
-use Rattle.refusal_reasons.specs.Faults.{count_next, count_of, is_due, is_flag, is_joiner, is_kind, misfit, left_over, options_taken, stray_fault, open_fault, shape_fault, form_fault, fields_fault, fault_of}
-use Rattle.refusal_reasons.specs.FirstWrong.{AreOf, Names, NamesField, NamesFirst, NamesIn}
+use Rattle.refusal_reasons.specs.{[], ℕ, ◌++◌, ◌+◌, ◌∷◌, ◌≡◌, AreOf, AwaitOk, Bool, FieldKind, LINE_LIMIT, List, Names, NamesField, NamesFirst, NamesIn, None, Option, Shape, Some, WordFault}
+use Rattle.refusal_reasons.specs.{begins_comment, bytes_eq, codes, count_next, count_of, deadline_next, deadline_said, false, fault_of, fields, fields_fault, flag_next, flag_said, form_fault}
+use Rattle.refusal_reasons.specs.{found_or, is_due, is_flag, is_joiner, is_kind, is_some, keyword_said, kinds, left_over, length, misfit, nat_lt, next_said, open_fault, option_map, options_taken}
+use Rattle.refusal_reasons.specs.{policy_next, policy_said, shape_fault, shape_of, stray_fault, true}
+use Rattle.refusal_reasons.proofs.Lemmas.{◌∙◌, ap, append-nil, append_assoc, arith, cond, length-append, ltb-true, refl, subst, sym}
 
 -- ---- words of their kinds
 
@@ -37,22 +23,22 @@ module _ (s : Shape) where
   unfolding misfit
   misfit_names n done [] words [] f right place is = absurd cc
   misfit_names n done [] words (word ∷ others) f right place is =
-      subst (Names s (done ++ []) (words ++ word ∷ others)) (some_is (fault.Extra s n) f is)
+      subst (Names s (done ++ []) (words ++ word ∷ others)) (some_is (WordFault.Extra s n) f is)
       (refl, record { words = words; word = word; others = others; whole = refl; right = subst (λ (ks : List FieldKind). AreOf ks words) (sym (append-nil done)) right; place = place })
   misfit_names n done (k ∷ ks) words [] f right place is =
-      subst (Names s (done ++ k ∷ ks) (words ++ [])) (some_is (fault.Missing s k) f is)
+      subst (Names s (done ++ k ∷ ks) (words ++ [])) (some_is (WordFault.Missing s k) f is)
       (refl, record { before = done; after = ks; form = refl; right = subst (AreOf done) (sym (append-nil words)) right })
   misfit_names n done (k ∷ ks) words (word ∷ others) f right place is = by (is_kind k word) refl is
       (λ fits next. misfit_names (n + 1) (done ++ k ∷ []) ks (words ++ word ∷ []) others f (one_more done words k word right fits) (omega (arith, place, length-append words (word ∷ []))) next)
     where
-      by : (b : Bool) → is_kind k word ≡ b → cond b (misfit s (n + 1) ks others) (Some (fault.Wrong s n k)) ≡ Some f
+      by : (b : Bool) → is_kind k word ≡ b → cond b (misfit s (n + 1) ks others) (Some (WordFault.Wrong s n k)) ≡ Some f
           → (is_kind k word ≡ true → misfit s (n + 1) ks others ≡ Some f → Names s ((done ++ k ∷ []) ++ ks) ((words ++ word ∷ []) ++ others) f)
           → Names s (done ++ k ∷ ks) (words ++ word ∷ others) f
       by true fits next later =
           subst (λ (all : List FieldKind). Names s all (words ++ word ∷ others) f) (append_assoc done (k ∷ []) ks)
           (subst (λ (all : List (List ℕ)). Names s ((done ++ k ∷ []) ++ ks) all f) (append_assoc words (word ∷ []) others) (later fits next))
       by false wrong found later =
-          subst (Names s (done ++ k ∷ ks) (words ++ word ∷ others)) (some_is (fault.Wrong s n k) f found)
+          subst (Names s (done ++ k ∷ ks) (words ++ word ∷ others)) (some_is (WordFault.Wrong s n k) f found)
           (refl, record { before = done; after = ks; words = words; word = word; others = others; form = refl; whole = refl; right = right; place = place; wrong = wrong })
 
 -- ---- what is left over of an open
@@ -103,11 +89,11 @@ options_take words =
     (then_takes words flagged moved _ _ (then_takes words behind flagged _ _ (policy_takes words) (deadline_takes behind)) (flag_takes (codes "move-on") flagged))
     (flag_takes (codes "shield") moved)
 
-stray_names : (actor : List ℕ) (words left : List (List ℕ)) (f : WordFault) → is_kind kind.Actor actor ≡ true → left_over words ≡ left → Takes words left (options_taken words) → stray_fault (1 + options_taken words) left ≡ Some f
-    → Names shape.Open (kinds shape.Open) (actor ∷ words) f
+stray_names : (actor : List ℕ) (words left : List (List ℕ)) (f : WordFault) → is_kind FieldKind.Actor actor ≡ true → left_over words ≡ left → Takes words left (options_taken words) → stray_fault (1 + options_taken words) left ≡ Some f
+    → Names Shape.Open (kinds Shape.Open) (actor ∷ words) f
 stray_names actor words [] f right left takes is = absurd cc
 stray_names actor words (word ∷ others) f right left takes is =
-    subst (Names shape.Open (kinds shape.Open) (actor ∷ words)) (some_is (fault.Stray (1 + options_taken words)) f is) (
+    subst (Names Shape.Open (kinds Shape.Open) (actor ∷ words)) (some_is (WordFault.Stray (1 + options_taken words)) f is) (
       refl,
       record {
         actor = actor;
@@ -121,24 +107,24 @@ stray_names actor words (word ∷ others) f right left takes is =
       },
     )
 
-open_names : (args : List (List ℕ)) (f : WordFault) → open_fault args ≡ Some f → Names shape.Open (kinds shape.Open) args f
-open_names [] f is = subst (Names shape.Open (kinds shape.Open) []) (some_is (fault.Missing shape.Open kind.Actor) f is) (refl, record { before = []; after = []; form = refl; right = tt })
-open_names (actor ∷ words) f is = by (is_kind kind.Actor actor) refl is
+open_names : (args : List (List ℕ)) (f : WordFault) → open_fault args ≡ Some f → Names Shape.Open (kinds Shape.Open) args f
+open_names [] f is = subst (Names Shape.Open (kinds Shape.Open) []) (some_is (WordFault.Missing Shape.Open FieldKind.Actor) f is) (refl, record { before = []; after = []; form = refl; right = tt })
+open_names (actor ∷ words) f is = by (is_kind FieldKind.Actor actor) refl is
   where
-    by : (b : Bool) → is_kind kind.Actor actor ≡ b → cond b (stray_fault (1 + options_taken words) (left_over words)) (Some (fault.Wrong shape.Open 0 kind.Actor)) ≡ Some f → Names shape.Open (kinds shape.Open) (actor ∷ words) f
+    by : (b : Bool) → is_kind FieldKind.Actor actor ≡ b → cond b (stray_fault (1 + options_taken words) (left_over words)) (Some (WordFault.Wrong Shape.Open 0 FieldKind.Actor)) ≡ Some f → Names Shape.Open (kinds Shape.Open) (actor ∷ words) f
     by true right found = stray_names actor words (left_over words) f right refl (options_take words) found
     by false wrong found =
-        subst (Names shape.Open (kinds shape.Open) (actor ∷ words)) (some_is (fault.Wrong shape.Open 0 kind.Actor) f found)
+        subst (Names Shape.Open (kinds Shape.Open) (actor ∷ words)) (some_is (WordFault.Wrong Shape.Open 0 FieldKind.Actor) f found)
         (refl, record { before = []; after = []; words = []; word = actor; others = words; form = refl; whole = refl; right = tt; place = refl; wrong = wrong })
 
 -- ---- every form
 
 shape_names : (s : Shape) (args : List (List ℕ)) (f : WordFault) → shape_fault s args ≡ Some f → Names s (kinds s) args f
-shape_names shape.Open args f is = open_names args f is
+shape_names Shape.Open args f is = open_names args f is
 shape_names s args f is = misfit_names s 0 [] (kinds s) [] args f tt refl is
 
 form_names : (o : Option Shape) (args : List (List ℕ)) (f : WordFault) → form_fault o args ≡ Some f → NamesIn o args f
-form_names None args f is = subst (NamesIn None args) (some_is fault.NoForm f is) tt
+form_names None args f is = subst (NamesIn None args) (some_is WordFault.NoForm f is) tt
 form_names (Some s) args f is = shape_names s args f is
 
 -- ---- lines
@@ -153,26 +139,26 @@ fields_names (word ∷ args) f is = by (begins_comment word) is
     by false found = form_names (option_map shape_of (keyword_said word)) args f found
 
 -- no field is too long
-in_form : (o : Option Shape) (args : List (List ℕ)) (bytes : ℕ) → NamesIn o args (fault.TooLong bytes) → ⊥
+in_form : (o : Option Shape) (args : List (List ℕ)) (bytes : ℕ) → NamesIn o args (WordFault.TooLong bytes) → ⊥
 in_form None args bytes names = names
 in_form (Some s) args bytes names = names
 
-in_field : (words : List (List ℕ)) (bytes : ℕ) → NamesField words (fault.TooLong bytes) → ⊥
+in_field : (words : List (List ℕ)) (bytes : ℕ) → NamesField words (WordFault.TooLong bytes) → ⊥
 in_field [] bytes names = names
 in_field (word ∷ args) bytes names = in_form (option_map shape_of (keyword_said word)) args bytes names
 
 of_fields : (line : List ℕ) (f : WordFault) → NamesField (fields line) f → NamesFirst line f
-of_fields line (fault.TooLong bytes) names = absurd (in_field (fields line) bytes names)
-of_fields line fault.NoForm names = names
-of_fields line (fault.Wrong s n k) names = names
-of_fields line (fault.Missing s k) names = names
-of_fields line (fault.Extra s n) names = names
-of_fields line (fault.Stray n) names = names
+of_fields line (WordFault.TooLong bytes) names = absurd (in_field (fields line) bytes names)
+of_fields line WordFault.NoForm names = names
+of_fields line (WordFault.Wrong s n k) names = names
+of_fields line (WordFault.Missing s k) names = names
+of_fields line (WordFault.Extra s n) names = names
+of_fields line (WordFault.Stray n) names = names
 
 pub faults_name_first : (line : List ℕ) (f : WordFault) → fault_of line ≡ Some f → NamesFirst line f
 unfolding fault_of
 faults_name_first line f is = by (nat_lt LINE_LIMIT (length line)) refl is
   where
-    by : (b : Bool) → nat_lt LINE_LIMIT (length line) ≡ b → cond b (Some (fault.TooLong (length line))) (fields_fault (fields line)) ≡ Some f → NamesFirst line f
-    by true long found = subst (NamesFirst line) (some_is (fault.TooLong (length line)) f found) (refl, ltb-true LINE_LIMIT (length line) long)
+    by : (b : Bool) → nat_lt LINE_LIMIT (length line) ≡ b → cond b (Some (WordFault.TooLong (length line))) (fields_fault (fields line)) ≡ Some f → NamesFirst line f
+    by true long found = subst (NamesFirst line) (some_is (WordFault.TooLong (length line)) f found) (refl, ltb-true LINE_LIMIT (length line) long)
     by false short found = of_fields line f (fields_names (fields line) f found)

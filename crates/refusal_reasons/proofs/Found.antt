@@ -1,17 +1,8 @@
 -- A search finds something just if a test says that there is something.
-use Rattle.std.proofs.Common.{◌≡◌, ℕ, zero, suc, ◌+◌, ◌&&◌, ◌||◌, Bool, true, false, not, cond, is_some, nat_lt, Option, Some, None, Err, List, [], ◌∷◌, length, refl, ap, sym, ◌∙◌, arith}
-use Rattle.std.proofs.lemmas.Bool.{lt-ltb}
-use Rattle.std.proofs.lemmas.Bool.Decides.{nat_tests}
-use Rattle.std.specs.Option.{option_or, option_map_or}
-use Rattle.std.specs.List.{list_any, find, filter, position, position_or_len}
-use Rattle.scope_rules.specs.Search.{earliest, some_below}
-use Rattle.scope_rules.specs.Completions.{is_task_of}
-use Rattle.scope_rules.specs.History.{History, task_numbers}
-use Rattle.scope_rules.specs.Nests.{tasks_of}
-use Rattle.scope_rules.specs.Scopes.{joins, ends, joined, closed, closing, closing_at, innermost}
-use Rattle.scope_rules.specs.Tasks.{settled}
-use Rattle.scope_rules.proofs.Innermosts.{innermost_unclosed}
-use Rattle.refusal_reasons.specs.Places.{place_if, first_place, closing_place, closed_place, joined_place, is_pending, pending_task}
+use Rattle.refusal_reasons.specs.{[], ℕ, ◌&&◌, ◌+◌, ◌||◌, ◌∷◌, ◌≡◌, Bool, History, List, None, Option, Some, closed, closed_place, closing, closing_at, closing_place, earliest, ends, false, filter}
+use Rattle.refusal_reasons.specs.{find, first_place, innermost, is_pending, is_some, is_task_of, joined, joined_place, joins, length, list_any, nat_lt, not, option_or, pending_task, place_if}
+use Rattle.refusal_reasons.specs.{position, position_or_len, settled, some_below, suc, task_numbers, tasks_of, true, zero}
+use Rattle.refusal_reasons.proofs.Lemmas.{◌∙◌, ap, arith, cond, innermost_unclosed, lt-ltb, nat_tests, refl, sym}
 
 moved : (m n : ℕ) → nat_lt m n ≡ nat_lt (1 + m) (suc n)
 moved m n = grind (arith, nat_tests)

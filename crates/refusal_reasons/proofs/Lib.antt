@@ -10,3 +10,4 @@ mod FaultsFit
 mod FirstWrong
 mod Called
 mod PlacesFit
+mod Lemmas

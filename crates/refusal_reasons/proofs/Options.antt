@@ -1,14 +1,7 @@
 -- What is left of an open's words after one of its options.
-use Rattle.std.proofs.Common.{◌≡◌, ℕ, ◌||◌, Bool, true, false, cond, is_some, List, [], ◌∷◌, Option, Some, None, option_map, codes, refl, ap, sym, ◌∙◌}
-use Rattle.std.specs.Option.{option_map_or, option_or, option_and_then}
-use Rattle.std.specs.Str.{bytes_eq}
-use Rattle.std.proofs.lemmas.Option.{some_pair_parts}
-use Rattle.scope_rules.specs.declared.types.joiners.Policy.TheVariants.{AwaitOk}
-use Rattle.script_words.specs.Fields.{first_and_rest}
-use Rattle.script_words.specs.Joiners.{after, policy_said, rule_said, failures_said, successes_said, sum_said}
-use Rattle.script_words.specs.Numbers.{small_said, integer_said}
-use Rattle.script_words.specs.Openings.{found_or, next_said, policy_next, deadline_said, deadline_next, flag_said, flag_next}
-use Rattle.refusal_reasons.specs.Faults.{count_of, count_next}
+use Rattle.refusal_reasons.specs.{[], ℕ, ◌∷◌, ◌≡◌, AwaitOk, Bool, List, None, Option, Some, bytes_eq, count_next, count_of, deadline_next, deadline_said, false, first_and_rest, flag_next, flag_said}
+use Rattle.refusal_reasons.specs.{found_or, is_some, next_said, option_map, policy_next, policy_said, true}
+use Rattle.refusal_reasons.proofs.Lemmas.{◌∙◌, ap, cond, refl, some_pair_parts, sym}
 
 -- ---- the next word
 

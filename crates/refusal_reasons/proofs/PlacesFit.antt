@@ -1,13 +1,7 @@
 -- A field stands where it is said to.
-use Rattle.std.proofs.Common.{◌≡◌, ◌∙◌, ℕ, zero, suc, ◌+◌, ◌-◌, Bool, true, false, cond, List, [], ◌∷◌, ◌++◌, length, take, drop, refl, sym, ap, subst, arith, Some, None, append_assoc, length-append}
-use Rattle.std.proofs.Math.Seq.{drop-append_seam}
-use Rattle.std.proofs.lemmas.List.{take-append-drop}
-use Rattle.std.proofs.lemmas.Option.{some_pair_parts}
-use Rattle.std.specs.List.{position_or_len}
-use Rattle.script_words.specs.Fields.{is_space, fields, without_spaces, first_and_rest}
-use Rattle.script_words.proofs.FieldSteps.{next_none, next_some}
-use Rattle.refusal_reasons.specs.LinePlaces.{behind_first, text_from, field_place}
-use Rattle.refusal_reasons.specs.FaultSentences.{field_at}
+use Rattle.refusal_reasons.specs.{[], ℕ, ◌++◌, ◌+◌, ◌-◌, ◌∷◌, ◌≡◌, Bool, List, None, Some, behind_first, drop, false, field_at, field_place, fields, first_and_rest, is_space, length, position_or_len}
+use Rattle.refusal_reasons.specs.{suc, take, text_from, true, without_spaces, zero}
+use Rattle.refusal_reasons.proofs.Lemmas.{◌∙◌, ap, append_assoc, arith, cond, drop-append_seam, length-append, next_none, next_some, refl, some_pair_parts, subst, sym, take-append-drop}
 
 -- ---- the text from a field on is an end of the line
 

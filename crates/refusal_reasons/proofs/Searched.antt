@@ -1,17 +1,8 @@
 -- What searches find.
-use Rattle.std.proofs.Common.{◌≡◌, ℕ, zero, suc, ◌+◌, ◌<◌, ◌≤◌, Bool, true, false, cond, Some, None, List, [], ◌∷◌, ◌++◌, length, slice_get, take, ◌||◌, refl, ap, sym, ◌∙◌, arith}
-use Rattle.std.proofs.lemmas.Bool.{false_from_ne_true}
-use Rattle.std.proofs.lemmas.List.Sums.{count_by-le-length, length-filter}
-use Rattle.std.proofs.lemmas.List.FromFn.{length-range_with_len}
-use Rattle.std.specs.List.{find, list_any, position, position_from}
-use Rattle.std.proofs.lemmas.Iterator.Adapters.{position_from-zero}
-use Rattle.scope_rules.specs.Completions.{is_task_of}
-use Rattle.scope_rules.specs.Nests.{tasks_of}
-use Rattle.scope_rules.specs.Search.{earliest}
-use Rattle.scope_rules.specs.History.{History, forked_count, tasks, task_numbers}
-use Rattle.scope_rules.proofs.Searching.{earliest_found}
-use Rattle.scope_rules.proofs.Prefixes.{take_at, take_whole}
-use Rattle.refusal_reasons.specs.Places.{place_if, first_place}
+use Rattle.refusal_reasons.specs.{[], ℕ, ◌++◌, ◌+◌, ◌<◌, ◌||◌, ◌∷◌, ◌≡◌, ◌≤◌, Bool, History, List, None, Some, earliest, false, find, first_place, forked_count, is_task_of, length, list_any, place_if}
+use Rattle.refusal_reasons.specs.{position, position_from, slice_get, suc, take, task_numbers, tasks, tasks_of, true, zero}
+use Rattle.refusal_reasons.proofs.Lemmas.{◌∙◌, ap, arith, cond, count_by-le-length, earliest_found, false_from_ne_true, length-filter, length-range_with_len, position_from-zero, refl, sym, take_at}
+use Rattle.refusal_reasons.proofs.Lemmas.{take_whole}
 
 -- ---- places
 

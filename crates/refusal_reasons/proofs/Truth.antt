@@ -1,39 +1,14 @@
 -- What is said of a check that fails is so of the history, check by check and row by row.
-use Rattle.std.proofs.Common.{◌≡◌, ℕ, zero, suc, ◌+◌, ◌==◌, ◌<◌, ◌&&◌, ◌||◌, Bool, true, false, not, cond, is_some, nat_le, nat_lt, Option, Some, None, Ok, Err, List, [], ◌∷◌, length, slice_get, IfSome, inl, inr, refl, ap, sym, ◌∙◌, subst, arith}
-use Rattle.std.proofs.lemmas.Bool.{not-true}
-use Rattle.std.proofs.lemmas.Bool.Decides.{nat_tests}
-use Rattle.std.proofs.lemmas.List.Quantifiers.{position-Some}
-use Rattle.std.proofs.lemmas.Option.{slice_get_cases}
-use Rattle.std.specs.List.{find, position}
-use Rattle.std.specs.Option.{option_map_or}
-use Rattle.scope_rules.specs.declared.types.answers.Stage.{Stage}
-use Rattle.scope_rules.specs.declared.types.answers.Stage.TheVariants as stage_is
-use Rattle.scope_rules.specs.declared.types.capacity.Limits.{Limits}
-use Rattle.scope_rules.specs.declared.types.capacity.TheConstants.{LEVEL_LIMIT, GREATEST_NUMBER, OPEN_LOAD, FORK_LOAD, STEP_LOAD}
-use Rattle.scope_rules.specs.declared.types.events.Event.{Event}
-use Rattle.scope_rules.specs.declared.types.events.Event.TheVariants.{Open, Fork, Reject, Start, Finish, Cancel, Move, Tick, Bind, Unbind, Join, BeginClose, EndClose}
-use Rattle.scope_rules.specs.declared.types.records.Opening.{Opening}
-use Rattle.scope_rules.specs.declared.types.records.Forking.{Forking}
-use Rattle.scope_rules.proofs.Earlier.{earliest_first}
-use Rattle.scope_checks.proofs.Remade.{scope_passes, actor_passes}
-use Rattle.scope_rules.specs.Bindings.{stack, bound_as_opened, holds_last}
-use Rattle.scope_rules.specs.Cancels.{is_cancelled}
-use Rattle.scope_rules.specs.declared.types.checks.Failed.{Failed}
-use Rattle.scope_rules.specs.declared.types.checks.Failed.TheVariants as failed
-use Rattle.scope_rules.specs.Checks.{Tried, refuse_if, checks, then_check, known_scope, known_task, known_actor, owns, owned, not_closing, not_joined, load_fits, in_closing, is_innermost}
-use Rattle.scope_rules.specs.History.{History, before, opening, forking, moment, scopes, tasks, opened_count, forked_count}
-use Rattle.scope_rules.specs.Load.{load, weight, over_scopes, over_tasks}
-use Rattle.scope_rules.specs.Nests.{tasks_of}
-use Rattle.scope_rules.specs.Scopes.{joins, joined, ends, closed, closing, begins_closing, closing_at, innermost, next_level}
-use Rattle.scope_rules.specs.Table.{row_check, retire_row, reading_row, until_row, owns_task, task_joined}
-use Rattle.scope_rules.specs.Tasks.{stage, is_waiting, is_running, settled, ready}
-use Rattle.refusal_reasons.specs.declared.reasons.Reason.TheVariants as reason
-use Rattle.refusal_reasons.specs.declared.reasons.ScopeObstacle.TheVariants as scope_is
-use Rattle.refusal_reasons.specs.declared.reasons.RoomObstacle.TheVariants as room_is
-use Rattle.refusal_reasons.specs.Reasons.{Presupposed, owner_of, scope_of, event_at, closed_reason, reason_of}
-use Rattle.refusal_reasons.specs.Places.{place_if, first_place, closing_place, closed_place, joined_place, is_pending, pending_task}
-use Rattle.refusal_reasons.specs.Truth.{IsEvent, BeginsClose, IsFirstPending, IsForkedIn, IsSo, asker}
-use Rattle.refusal_reasons.proofs.Found.{joined_is, closed_is, closing_is, settled_is}
+use Rattle.refusal_reasons.specs.{[], ℕ, ◌&&◌, ◌+◌, ◌<◌, ◌==◌, ◌||◌, ◌∷◌, ◌≡◌, BeginClose, BeginsClose, Bind, Bool, Cancel, EndClose, Err, Event, FORK_LOAD, Failed, Finish, Fork, Forking}
+use Rattle.refusal_reasons.specs.{GREATEST_NUMBER, History, IfSome, IsEvent, IsFirstPending, IsForkedIn, IsSo, Join, LEVEL_LIMIT, Limits, List, Move, None, OPEN_LOAD, Ok, Open, Opening, Option}
+use Rattle.refusal_reasons.specs.{Presupposed, Reason, Reject, RoomObstacle, STEP_LOAD, ScopeObstacle, Some, Stage, Start, Tick, Tried, Unbind, asker, before, begins_closing, bound_as_opened, checks}
+use Rattle.refusal_reasons.specs.{closed, closed_place, closed_reason, closing, closing_at, closing_place, ends, event_at, false, find, first_place, forked_count, forking, holds_last, in_closing}
+use Rattle.refusal_reasons.specs.{innermost, is_cancelled, is_innermost, is_pending, is_running, is_some, is_waiting, joined, joined_place, joins, known_actor, known_scope, known_task, length}
+use Rattle.refusal_reasons.specs.{load_fits, moment, nat_le, nat_lt, next_level, not, not_closing, not_joined, opened_count, opening, option_map_or, over_scopes, over_tasks, owned, owner_of, owns}
+use Rattle.refusal_reasons.specs.{owns_task, pending_task, place_if, position, reading_row, ready, reason_of, refuse_if, retire_row, row_check, scope_of, scopes, settled, slice_get, stack, stage, suc}
+use Rattle.refusal_reasons.specs.{task_joined, tasks, tasks_of, then_check, true, until_row, weight, zero}
+use Rattle.refusal_reasons.proofs.Lemmas.{◌∙◌, actor_passes, ap, arith, cond, earliest_first, inl, inr, nat_tests, not-true, position-Some, refl, scope_passes, slice_get_cases, subst, sym}
+use Rattle.refusal_reasons.proofs.Found.{closed_is, closing_is, joined_is, settled_is}
 
 -- whatever check fails has P
 pub record Says (P : Failed → Type 0) (x : Tried Failed) : Type 0 where
@@ -170,25 +145,25 @@ known false false f g e = refl
 
 opened : (h : History) (s : ℕ) → known_scope (λ f. f) h s ≡ Ok tt → (o : Opening) × (opening h s ≡ Some o)
 unfolding known_scope
-opened h s e = some_of (opening h s) (known (nat_lt 0 s && nat_le s h.base.scopes) (not (is_some (opening h s))) (failed.ScopeRetired s) (failed.ScopeUnknown s) e)
+opened h s e = some_of (opening h s) (known (nat_lt 0 s && nat_le s h.base.scopes) (not (is_some (opening h s))) (Failed.ScopeRetired s) (Failed.ScopeUnknown s) e)
 
 pub forked : (h : History) (k : ℕ) → known_task (λ f. f) h k ≡ Ok tt → (f : Forking) × (forking h k ≡ Some f)
 unfolding known_task
-forked h k e = some_of (forking h k) (known (nat_lt 0 k && nat_le k h.base.tasks) (not (is_some (forking h k))) (failed.TaskRetired k) (failed.TaskUnknown k) e)
+forked h k e = some_of (forking h k) (known (nat_lt 0 k && nat_le k h.base.tasks) (not (is_some (forking h k))) (Failed.TaskRetired k) (Failed.TaskUnknown k) e)
 
-not_waiting : (x : Stage) → not (is_waiting x) ≡ true → x ≡ stage_is.Waiting → ⊥
+not_waiting : (x : Stage) → not (is_waiting x) ≡ true → x ≡ Stage.Waiting → ⊥
 not_waiting x e same = let waits : is_waiting x ≡ true = ap is_waiting same in absurd cc
 
-not_running : (x : Stage) → not (is_running x) ≡ true → x ≡ stage_is.Running → ⊥
+not_running : (x : Stage) → not (is_running x) ≡ true → x ≡ Stage.Running → ⊥
 not_running x e same = let runs : is_running x ≡ true = ap is_running same in absurd cc
 
 not_same : (m n : ℕ) → (m == n) ≡ false → m ≡ n → ⊥
 not_same m n e same = absurd (grind (arith, nat_tests, e, same))
 
-main_acts : (a : ℕ) → refuse_if (not (a == 0)) (failed.NotMain a) ≡ Ok tt → a ≡ 0
+main_acts : (a : ℕ) → refuse_if (not (a == 0)) (Failed.NotMain a) ≡ Ok tt → a ≡ 0
 main_acts a passes = by (a == 0) refl passes
   where
-    by : (b : Bool) → (a == 0) ≡ b → refuse_if (not b) (failed.NotMain a) ≡ Ok tt → a ≡ 0
+    by : (b : Bool) → (a == 0) ≡ b → refuse_if (not b) (Failed.NotMain a) ≡ Ok tt → a ≡ 0
     by true e passes = grind (arith, nat_tests, e)
     by false e passes = absurd cc
 
@@ -199,18 +174,18 @@ IsTrueOf L h a cost f = Presupposed h f × IsSo L h a cost (reason_of L h f)
 module _ (L : Limits) (h : History) (a cost : ℕ) where
   pub scope_says : (s : ℕ) → Says (IsTrueOf L h a cost) (known_scope (λ f. f) h s)
   unfolding known_scope
-  scope_says s = says_either (IsTrueOf L h a cost) (nat_lt 0 s && nat_le s h.base.scopes) (not (is_some (opening h s))) (failed.ScopeRetired s) (failed.ScopeUnknown s)
+  scope_says s = says_either (IsTrueOf L h a cost) (nat_lt 0 s && nat_le s h.base.scopes) (not (is_some (opening h s))) (Failed.ScopeRetired s) (Failed.ScopeUnknown s)
       (λ e. let bs = both (nat_lt 0 s) (nat_le s h.base.scopes) e in (tt, (grind (arith, nat_tests, bs.0), grind (arith, nat_tests, bs.1), refl))) (λ e. (tt, (none_of (opening h s) e, refl)))
 
   pub task_says : (k : ℕ) → Says (IsTrueOf L h a cost) (known_task (λ f. f) h k)
   unfolding known_task
-  task_says k = says_either (IsTrueOf L h a cost) (nat_lt 0 k && nat_le k h.base.tasks) (not (is_some (forking h k))) (failed.TaskRetired k) (failed.TaskUnknown k)
+  task_says k = says_either (IsTrueOf L h a cost) (nat_lt 0 k && nat_le k h.base.tasks) (not (is_some (forking h k))) (Failed.TaskRetired k) (Failed.TaskUnknown k)
       (λ e. let bs = both (nat_lt 0 k) (nat_le k h.base.tasks) e in (tt, (grind (arith, nat_tests, bs.0), grind (arith, nat_tests, bs.1), refl))) (λ e. (tt, (none_of (forking h k) e, refl)))
 
-  waits_says : (k : ℕ) → Says (IsTrueOf L h a cost) (refuse_if (not (is_waiting (stage h k))) (failed.NotWaiting k))
+  waits_says : (k : ℕ) → Says (IsTrueOf L h a cost) (refuse_if (not (is_waiting (stage h k))) (Failed.NotWaiting k))
   waits_says k = says_if _ _ _ (λ e. (tt, (refl, not_waiting (stage h k) e)))
 
-  runs_says : (k : ℕ) → Says (IsTrueOf L h a cost) (refuse_if (not (is_running (stage h k))) (failed.NotRunning k))
+  runs_says : (k : ℕ) → Says (IsTrueOf L h a cost) (refuse_if (not (is_running (stage h k))) (Failed.NotRunning k))
   runs_says k = says_if _ _ _ (λ e. (tt, (refl, not_running (stage h k) e)))
 
   pub actor_says : Says (IsTrueOf L h a cost) (known_actor (λ f. f) h a)
@@ -221,7 +196,7 @@ module _ (L : Limits) (h : History) (a cost : ℕ) where
 
   owned_says : (s : ℕ) → known_scope (λ f. f) h s ≡ Ok tt → Says (IsTrueOf L h a cost) (owned (λ f. f) h a s)
   unfolding owns
-  owned_says s passes = says_if (IsTrueOf L h a cost) (not (owns h a s)) (failed.NotOwner a s) (λ e.
+  owned_says s passes = says_if (IsTrueOf L h a cost) (not (owns h a s)) (Failed.NotOwner a s) (λ e.
       let o = opened h s passes in
       let owner : owner_of h s ≡ o.0.actor = ap (λ x. option_map_or (λ y. y.actor) x 0) o.1 in
       (tt, (refl, (λ same. other o.0 o.1 (not-true (owns h a s) e) (sym owner ∙ same)), o.0, o.1, sym owner)))
@@ -229,9 +204,9 @@ module _ (L : Limits) (h : History) (a cost : ℕ) where
       other : (o : Opening) → opening h s ≡ Some o → owns h a s ≡ false → o.actor ≡ a → ⊥
       other o at e same = absurd (not_same o.actor a (ap (λ x. option_map_or (λ y. y.actor == a) x false) (sym at) ∙ e) same)
 
-  task_owned_says : (k : ℕ) → known_task (λ f. f) h k ≡ Ok tt → Says (IsTrueOf L h a cost) (refuse_if (not (owns_task h a k)) (failed.NotTaskOwner a k))
+  task_owned_says : (k : ℕ) → known_task (λ f. f) h k ≡ Ok tt → Says (IsTrueOf L h a cost) (refuse_if (not (owns_task h a k)) (Failed.NotTaskOwner a k))
   unfolding owns
-  task_owned_says k passes = says_if (IsTrueOf L h a cost) (not (owns_task h a k)) (failed.NotTaskOwner a k) (λ e.
+  task_owned_says k passes = says_if (IsTrueOf L h a cost) (not (owns_task h a k)) (Failed.NotTaskOwner a k) (λ e.
       let f = forked h k passes in
       (tt, (refl, forked_in h k f.0 f.1, other f.0 f.1 (not-true (owns_task h a k) e))))
     where
@@ -247,7 +222,7 @@ module _ (L : Limits) (h : History) (a cost : ℕ) where
           let owns : owns h a (scope_of h k) ≡ false = ap (owns h a) scope ∙ (ap (λ x. option_map_or (λ g. owns h a g.scope) x false) (sym at) ∙ e) in
           of_opening (scope_of h k) (opening h (scope_of h k)) refl owns
 
-  main_says : Says (IsTrueOf L h a cost) (refuse_if (not (a == 0)) (failed.NotMain a))
+  main_says : Says (IsTrueOf L h a cost) (refuse_if (not (a == 0)) (Failed.NotMain a))
   main_says = says_if _ _ _ (λ e. (tt, (refl, not_same a 0 (not-true (a == 0) e))))
 
   -- ---- joins and closes
@@ -255,38 +230,38 @@ module _ (L : Limits) (h : History) (a cost : ℕ) where
   closing_says : (s : ℕ) → Says (IsTrueOf L h a cost) (not_closing (λ f. f) h s)
   closing_says s = says_if _ _ _ (λ e. (tt, by (closed h s) refl e))
     where
-      by : (b : Bool) → closed h s ≡ b → closing h s ≡ true → IsSo L h a cost (cond b (closed_reason h s) (reason.Scope s (scope_is.Closing (event_at (closing_place h s)))))
+      by : (b : Bool) → closed h s ≡ b → closing h s ≡ true → IsSo L h a cost (cond b (closed_reason h s) (Reason.Scope s (ScopeObstacle.Closing (event_at (closing_place h s)))))
       by true at e = closed_at h s at
       by false at e = (begun_at h s e, at)
 
-  closed_says : (s : ℕ) → Says (IsTrueOf L h a cost) (refuse_if (closed h s) (failed.Closed s))
+  closed_says : (s : ℕ) → Says (IsTrueOf L h a cost) (refuse_if (closed h s) (Failed.Closed s))
   closed_says s = says_if _ _ _ (λ e. (tt, closed_at h s e))
 
-  begun_says : (s : ℕ) → Says (IsTrueOf L h a cost) (refuse_if (not (closing h s)) (failed.NotClosing s))
+  begun_says : (s : ℕ) → Says (IsTrueOf L h a cost) (refuse_if (not (closing h s)) (Failed.NotClosing s))
   begun_says s = says_if _ _ _ (λ e. (tt, not-true (closing h s) e))
 
   joined_says : (s : ℕ) → Says (IsTrueOf L h a cost) (not_joined (λ f. f) h s)
   joined_says s = says_if _ _ _ (λ e. (tt, joined_at h s e))
 
-  task_joined_says : (k : ℕ) → known_task (λ f. f) h k ≡ Ok tt → Says (IsTrueOf L h a cost) (refuse_if (not (task_joined h k)) (failed.NotJoined k))
+  task_joined_says : (k : ℕ) → known_task (λ f. f) h k ≡ Ok tt → Says (IsTrueOf L h a cost) (refuse_if (not (task_joined h k)) (Failed.NotJoined k))
   task_joined_says k passes = says_if _ _ _ (λ e.
       let f = forked h k passes in
       let scope : scope_of h k ≡ f.0.scope = ap (λ x. option_map_or (λ g. g.scope) x 0) f.1 in
       (tt, (forked_in h k f.0 f.1, ap (joined h) scope ∙ (ap (λ x. option_map_or (λ g. joined h g.scope) x false) (sym f.1) ∙ not-true (task_joined h k) e))))
 
-  pending_so : (s : ℕ) → known_scope (λ f. f) h s ≡ Ok tt → settled h s ≡ false → IsTrueOf L h a cost (failed.Pending s)
+  pending_so : (s : ℕ) → known_scope (λ f. f) h s ≡ Ok tt → settled h s ≡ false → IsTrueOf L h a cost (Failed.Pending s)
   pending_so s passes e = (scope_passes (λ f. f) h s passes, by (pending_task h s) refl (settled_is h s))
     where
-      by : (o : Option ℕ) → pending_task h s ≡ o → settled h s ≡ not (is_some (pending_task h s)) → IsSo L h a cost (option_map_or (λ k. reason.Scope s (scope_is.Awaits k (stage h k))) o (reason.Scope s (scope_is.Awaits 0 stage_is.Never)))
+      by : (o : Option ℕ) → pending_task h s ≡ o → settled h s ≡ not (is_some (pending_task h s)) → IsSo L h a cost (option_map_or (λ k. Reason.Scope s (ScopeObstacle.Awaits k (stage h k))) o (Reason.Scope s (ScopeObstacle.Awaits 0 Stage.Never)))
       by None at is = let none : settled h s ≡ true = is ∙ ap (λ o. not (is_some o)) at in absurd cc
       by (Some k) at is = (first_pending h s k at, refl)
 
-  settled_says : (s : ℕ) → known_scope (λ f. f) h s ≡ Ok tt → Says (IsTrueOf L h a cost) (refuse_if (not (settled h s)) (failed.Pending s))
+  settled_says : (s : ℕ) → known_scope (λ f. f) h s ≡ Ok tt → Says (IsTrueOf L h a cost) (refuse_if (not (settled h s)) (Failed.Pending s))
   settled_says s passes = says_if _ _ _ (λ e. pending_so s passes (not-true (settled h s) e))
 
-  ready_says : (s : ℕ) → known_scope (λ f. f) h s ≡ Ok tt → Says (IsTrueOf L h a cost) (refuse_if (not (ready h s)) (failed.Pending s))
+  ready_says : (s : ℕ) → known_scope (λ f. f) h s ≡ Ok tt → Says (IsTrueOf L h a cost) (refuse_if (not (ready h s)) (Failed.Pending s))
   unfolding ready
-  ready_says s passes = says_if (IsTrueOf L h a cost) (not (is_cancelled h s || settled h s)) (failed.Pending s) (λ e. pending_so s passes (neither (is_cancelled h s) (settled h s) e))
+  ready_says s passes = says_if (IsTrueOf L h a cost) (not (is_cancelled h s || settled h s)) (Failed.Pending s) (λ e. pending_so s passes (neither (is_cancelled h s) (settled h s) e))
     where
       neither : (b c : Bool) → not (b || c) ≡ true → c ≡ false
       neither true c e = absurd cc
@@ -294,40 +269,40 @@ module _ (L : Limits) (h : History) (a cost : ℕ) where
 
   -- ---- nesting
 
-  around_says : Says (IsTrueOf L h a cost) (refuse_if (in_closing h a) (failed.ClosingAround a))
+  around_says : Says (IsTrueOf L h a cost) (refuse_if (in_closing h a) (Failed.ClosingAround a))
   unfolding in_closing
-  around_says = says_if (IsTrueOf L h a cost) (in_closing h a) (failed.ClosingAround a) (λ e. (tt, by (innermost h a) refl e))
+  around_says = says_if (IsTrueOf L h a cost) (in_closing h a) (Failed.ClosingAround a) (λ e. (tt, by (innermost h a) refl e))
     where
-      by : (o : Option ℕ) → innermost h a ≡ o → option_map_or (closing h) o false ≡ true → IsSo L h a cost (option_map_or (λ s. reason.Scope s (scope_is.ClosingAround a (event_at (closing_place h s)))) o (reason.Scope 0 (scope_is.ClosingAround a 0)))
+      by : (o : Option ℕ) → innermost h a ≡ o → option_map_or (closing h) o false ≡ true → IsSo L h a cost (option_map_or (λ s. Reason.Scope s (ScopeObstacle.ClosingAround a (event_at (closing_place h s)))) o (Reason.Scope 0 (ScopeObstacle.ClosingAround a 0)))
       by None at e = absurd cc
       by (Some s) at e = (refl, at, begun_at h s e)
 
-  unclosed_says : (b : ℕ) → b ≡ a → Says (IsTrueOf L h a cost) (refuse_if (is_some (innermost h b)) (failed.Unclosed b))
+  unclosed_says : (b : ℕ) → b ≡ a → Says (IsTrueOf L h a cost) (refuse_if (is_some (innermost h b)) (Failed.Unclosed b))
   unclosed_says b same = says_if _ _ _ (λ e. (tt, by (innermost h b) refl e))
     where
-      by : (o : Option ℕ) → innermost h b ≡ o → is_some o ≡ true → IsSo L h a cost (option_map_or (λ s. reason.Scope s (scope_is.Unclosed b)) o (reason.Scope 0 (scope_is.Unclosed b)))
+      by : (o : Option ℕ) → innermost h b ≡ o → is_some o ≡ true → IsSo L h a cost (option_map_or (λ s. Reason.Scope s (ScopeObstacle.Unclosed b)) o (Reason.Scope 0 (ScopeObstacle.Unclosed b)))
       by None at e = absurd cc
       by (Some s) at e = (same, ap (innermost h) (sym same) ∙ at)
 
-  innermost_says : (s : ℕ) → Says (IsTrueOf L h a cost) (refuse_if (not (is_innermost h a s)) (failed.NotInnermost a s))
+  innermost_says : (s : ℕ) → Says (IsTrueOf L h a cost) (refuse_if (not (is_innermost h a s)) (Failed.NotInnermost a s))
   unfolding is_innermost
-  innermost_says s = says_if (IsTrueOf L h a cost) (not (is_innermost h a s)) (failed.NotInnermost a s) (λ e. (tt, (refl, refl, other (not-true (is_innermost h a s) e))))
+  innermost_says s = says_if (IsTrueOf L h a cost) (not (is_innermost h a s)) (Failed.NotInnermost a s) (λ e. (tt, (refl, refl, other (not-true (is_innermost h a s) e))))
     where
       other : is_innermost h a s ≡ false → innermost h a ≡ Some s → ⊥
       other e same = absurd (not_same s s (ap (λ x. option_map_or (λ t. t == s) x false) (sym same) ∙ e) refl)
 
-  level_says : known_actor (λ f. f) h a ≡ Ok tt → Says (IsTrueOf L h a cost) (refuse_if (nat_lt LEVEL_LIMIT (next_level h a)) (failed.TooDeep a))
+  level_says : known_actor (λ f. f) h a ≡ Ok tt → Says (IsTrueOf L h a cost) (refuse_if (nat_lt LEVEL_LIMIT (next_level h a)) (Failed.TooDeep a))
   level_says passes = says_if _ _ _ (λ e. (actor_passes (λ f. f) h a passes, (refl, grind (arith, nat_tests, e))))
 
   -- ---- bindings
 
-  alike_says : (s : ℕ) → known_actor (λ f. f) h a ≡ Ok tt → Says (IsTrueOf L h a cost) (refuse_if (not (bound_as_opened h a s)) (failed.BoundOtherwise a s))
+  alike_says : (s : ℕ) → known_actor (λ f. f) h a ≡ Ok tt → Says (IsTrueOf L h a cost) (refuse_if (not (bound_as_opened h a s)) (Failed.BoundOtherwise a s))
   alike_says s passes = says_if _ _ _ (λ e. (actor_passes (λ f. f) h a passes, (refl, refl, not-true (bound_as_opened h a s) e)))
 
-  pair_says : Says (IsTrueOf L h a cost) (refuse_if (length (stack h a) == 0) (failed.NoBinding a))
+  pair_says : Says (IsTrueOf L h a cost) (refuse_if (length (stack h a) == 0) (Failed.NoBinding a))
   pair_says = says_if _ _ _ (λ e. (tt, (refl, grind (arith, nat_tests, e))))
 
-  held_says : known_actor (λ f. f) h a ≡ Ok tt → Says (IsTrueOf L h a cost) (refuse_if (holds_last h a) (failed.HeldBinding a))
+  held_says : known_actor (λ f. f) h a ≡ Ok tt → Says (IsTrueOf L h a cost) (refuse_if (holds_last h a) (Failed.HeldBinding a))
   held_says passes = says_if _ _ _ (λ e. (actor_passes (λ f. f) h a passes, (refl, refl, e)))
 
   -- ---- room and time
@@ -335,21 +310,21 @@ module _ (L : Limits) (h : History) (a cost : ℕ) where
   load_says : Says (IsTrueOf L h a cost) (load_fits (λ f. f) L h cost)
   load_says = says_if _ _ _ (λ e. (tt, (refl, refl, refl, grind (arith, nat_tests, e))))
 
-  scopes_say : Says (IsTrueOf L h a cost) (refuse_if (over_scopes L h) failed.Scopes)
+  scopes_say : Says (IsTrueOf L h a cost) (refuse_if (over_scopes L h) Failed.Scopes)
   scopes_say = says_if _ _ _ (λ e. (tt, by (nat_le L.scopes (opened_count h)) refl e))
     where
-      by : (b : Bool) → nat_le L.scopes (opened_count h) ≡ b → (b || nat_le GREATEST_NUMBER (scopes h)) ≡ true → IsSo L h a cost (reason.Room (cond b (room_is.Scopes (opened_count h) L.scopes) room_is.ScopeNumbers))
+      by : (b : Bool) → nat_le L.scopes (opened_count h) ≡ b → (b || nat_le GREATEST_NUMBER (scopes h)) ≡ true → IsSo L h a cost (Reason.Room (cond b (RoomObstacle.Scopes (opened_count h) L.scopes) RoomObstacle.ScopeNumbers))
       by true at e = (refl, refl, grind (arith, nat_tests, at))
       by false at e = grind (arith, nat_tests, e)
 
-  tasks_say : Says (IsTrueOf L h a cost) (refuse_if (over_tasks L h) failed.Tasks)
+  tasks_say : Says (IsTrueOf L h a cost) (refuse_if (over_tasks L h) Failed.Tasks)
   tasks_say = says_if _ _ _ (λ e. (tt, by (nat_le L.tasks (forked_count h)) refl e))
     where
-      by : (b : Bool) → nat_le L.tasks (forked_count h) ≡ b → (b || nat_le GREATEST_NUMBER (tasks h)) ≡ true → IsSo L h a cost (reason.Room (cond b (room_is.Tasks (forked_count h) L.tasks) room_is.TaskNumbers))
+      by : (b : Bool) → nat_le L.tasks (forked_count h) ≡ b → (b || nat_le GREATEST_NUMBER (tasks h)) ≡ true → IsSo L h a cost (Reason.Room (cond b (RoomObstacle.Tasks (forked_count h) L.tasks) RoomObstacle.TaskNumbers))
       by true at e = (refl, refl, grind (arith, nat_tests, at))
       by false at e = grind (arith, nat_tests, e)
 
-  later_says : (now : ℕ) → Says (IsTrueOf L h a cost) (refuse_if (nat_lt now (moment h)) (failed.ClockBack now))
+  later_says : (now : ℕ) → Says (IsTrueOf L h a cost) (refuse_if (nat_lt now (moment h)) (Failed.ClockBack now))
   later_says now = says_if _ _ _ (λ e. (tt, (refl, grind (arith, nat_tests, e))))
 
 -- ---- the rows

@@ -1,15 +1,6 @@
 -- Why a word is not what it is to be.
-use Rattle.std.specs.Prelude.{ℕ, ◌==◌, Bool, true, false, not, ◌&&◌, ◌||◌, is_some, List, [], ◌∷◌, length, Option, Some, None, if◌then◌else◌}
-use Rattle.std.specs.Char.{is_ascii_digit}
-use Rattle.std.specs.List.{list_any}
-use Rattle.scope_rules.specs.NameText.{is_letter, is_inner}
-use Rattle.script_words.specs.Joiners.{after}
-use Rattle.refusal_reasons.specs.declared.causes.Alien.{Alien}
-use Rattle.refusal_reasons.specs.declared.causes.Alien.TheVariants as alien
-use Rattle.refusal_reasons.specs.declared.causes.Cause.{Cause}
-use Rattle.refusal_reasons.specs.declared.causes.Cause.TheVariants as cause
-use Rattle.refusal_reasons.specs.declared.shapes.FieldKind.{FieldKind}
-use Rattle.refusal_reasons.specs.declared.shapes.FieldKind.TheVariants as kind
+use Rattle.refusal_reasons.specs.Words.{[], ℕ, ◌&&◌, ◌==◌, ◌||◌, ◌∷◌, Alien, Bool, Cause, FieldKind, List, None, Option, Some, after, false, if◌then◌else◌, is_ascii_digit, is_inner, is_letter}
+use Rattle.refusal_reasons.specs.Words.{is_some, length, list_any, not}
 
 -- ---- bytes that no script has
 
@@ -25,10 +16,10 @@ has_byte b word = list_any (λ c. c == b) word
 -- return, a tab
 unfoldable pub alien_in : List ℕ → Option Alien
 alien_in word =
-    if has_mark word then Some alien.ByteOrderMark
-    else if has_byte 0 word then Some alien.Utf16
-    else if has_byte 13 word then Some alien.CarriageReturn
-    else if has_byte 9 word then Some alien.Tab
+    if has_mark word then Some Alien.ByteOrderMark
+    else if has_byte 0 word then Some Alien.Utf16
+    else if has_byte 13 word then Some Alien.CarriageReturn
+    else if has_byte 9 word then Some Alien.Tab
     else None
 
 -- ---- numbers and names
@@ -49,20 +40,20 @@ is_sign b = (b == 45) || (b == 43)
 
 -- why a word that begins with a digit is no such number: of the byte that is no digit, or else of its size
 abbrev pub digits_cause : ℕ → Option ℕ → Cause
-digits_cause first (Some other) = cause.NoDigit other
-digits_cause first None = if first == 48 then cause.NeedlessZero else cause.TooGreat
+digits_cause first (Some other) = Cause.NoDigit other
+digits_cause first None = if first == 48 then Cause.NeedlessZero else Cause.TooGreat
 
 -- why a word is no number of its kind
 abbrev pub number_cause : List ℕ → Cause
-number_cause [] = cause.Plain
+number_cause [] = Cause.Plain
 number_cause (first ∷ others) =
-    if is_sign first then cause.Signed
+    if is_sign first then Cause.Signed
     else if is_ascii_digit first then digits_cause first (first_other others)
-    else cause.Plain
+    else Cause.Plain
 
 -- the same of a moment: a letter behind its digits begins a unit, and it has none
 abbrev pub timed : Cause → Cause
-timed (cause.NoDigit other) = if is_letter other then cause.HasUnit else cause.NoDigit other
+timed (Cause.NoDigit other) = if is_letter other then Cause.HasUnit else Cause.NoDigit other
 timed c = c
 
 abbrev pub moment_cause : List ℕ → Cause
@@ -70,18 +61,18 @@ moment_cause word = timed (number_cause word)
 
 -- why a word is no name: its first byte, another byte, or its length
 abbrev pub inner_cause : (bytes : ℕ) → Option ℕ → Cause
-inner_cause bytes (Some other) = cause.HasByte other
-inner_cause bytes None = cause.TooLongName bytes
+inner_cause bytes (Some other) = Cause.HasByte other
+inner_cause bytes None = Cause.TooLongName bytes
 
 abbrev pub name_cause : List ℕ → Cause
-name_cause [] = cause.Plain
+name_cause [] = Cause.Plain
 name_cause (first ∷ others) =
     if is_letter first then inner_cause (length (first ∷ others)) (first_strange others)
-    else cause.BeginsWith first
+    else Cause.BeginsWith first
 
 -- why a word that begins with a sign or a digit is no number of 64 bits, and another no name
 abbrev pub wide : Cause → Cause
-wide cause.TooGreat = cause.TooWide
+wide Cause.TooGreat = Cause.TooWide
 wide c = c
 
 abbrev pub is_zero : List ℕ → Bool
@@ -90,10 +81,10 @@ is_zero _ = false
 
 -- 0 has no sign
 abbrev pub signed_cause : ℕ → List ℕ → Cause
-signed_cause sign digits = if (sign == 45) && not (is_zero digits) then wide (number_cause digits) else cause.Signed
+signed_cause sign digits = if (sign == 45) && not (is_zero digits) then wide (number_cause digits) else Cause.Signed
 
 abbrev pub value_cause : List ℕ → Cause
-value_cause [] = cause.Plain
+value_cause [] = Cause.Plain
 value_cause (first ∷ others) =
     if is_sign first then signed_cause first others
     else if is_ascii_digit first then wide (number_cause (first ∷ others))
@@ -101,10 +92,10 @@ value_cause (first ∷ others) =
 
 -- why a word is not of the kind
 unfoldable pub cause_of : FieldKind → List ℕ → Cause
-cause_of kind.Actor word = number_cause word
-cause_of kind.Scope word = number_cause word
-cause_of kind.Task word = number_cause word
-cause_of kind.Moment word = moment_cause word
-cause_of kind.Deadline word = moment_cause word
-cause_of kind.Name word = name_cause word
-cause_of kind.Value word = value_cause word
+cause_of FieldKind.Actor word = number_cause word
+cause_of FieldKind.Scope word = number_cause word
+cause_of FieldKind.Task word = number_cause word
+cause_of FieldKind.Moment word = moment_cause word
+cause_of FieldKind.Deadline word = moment_cause word
+cause_of FieldKind.Name word = name_cause word
+cause_of FieldKind.Value word = value_cause word

@@ -1,8 +1,6 @@
 -- That a line has a fault just where it is no command.
-use Rattle.std.specs.Prelude.{◌≡◌, ℕ, Bool, true, false, List, is_some}
-use Rattle.script_words.specs.declared.commands.Line.{Line}
-use Rattle.script_words.specs.declared.commands.Line.TheVariants.{Silent, BadWord, Command}
-use Rattle.script_words.specs.Lines.{line_said}
+use Rattle.refusal_reasons.specs.Words.{ℕ, ◌≡◌, BadWord, Bool, Line, List, Silent, false, is_some, line_said, true}
+use Rattle.script_words.specs.declared.commands.Line.TheVariants.{Command}
 use Rattle.refusal_reasons.specs.Faults.{fault_of}
 
 abbrev pub is_bad : Line → Bool

@@ -1,25 +1,7 @@
 -- The sentence of each fault of a line.
-use Rattle.std.specs.Prelude.{ℕ, zero, suc, Bool, ◌||◌, nat_lt, is_some, List, [], ◌∷◌, ◌++◌, map, Option, Some, None, codes, if◌then◌else◌}
-use Rattle.std.specs.Fmt.{decimal}
-use Rattle.std.specs.Str.{bytes_eq}
-use Rattle.refusal_reasons.specs.declared.causes.Alien.{Alien}
-use Rattle.refusal_reasons.specs.declared.causes.Alien.TheVariants as alien
-use Rattle.refusal_reasons.specs.declared.causes.Cause.{Cause}
-use Rattle.refusal_reasons.specs.declared.causes.Cause.TheVariants as cause
-use Rattle.refusal_reasons.specs.declared.faults.WordFault.{WordFault}
-use Rattle.refusal_reasons.specs.declared.faults.WordFault.TheVariants as fault
-use Rattle.refusal_reasons.specs.declared.sentences.TheConstants.{COMMANDS, OPTIONS}
-use Rattle.refusal_reasons.specs.declared.shapes.FieldKind.{FieldKind}
-use Rattle.refusal_reasons.specs.declared.shapes.FieldKind.TheVariants as kind
-use Rattle.refusal_reasons.specs.declared.shapes.Shape.{Shape}
-use Rattle.refusal_reasons.specs.declared.shapes.Shape.TheVariants as shape
-use Rattle.refusal_reasons.specs.Causes.{alien_in, cause_of}
-use Rattle.refusal_reasons.specs.Guesses.{nearest}
-use Rattle.refusal_reasons.specs.Shown.{shown_alone, shown_text}
-use Rattle.script_words.specs.Fields.{fields}
-use Rattle.script_words.specs.Joiners.{after, policy_said}
-use Rattle.script_words.specs.Openings.{deadline_said}
-use Rattle.script_words.specs.declared.lines.TheConstants.{LINE_LIMIT}
+use Rattle.refusal_reasons.specs.Words.{[], ℕ, ◌++◌, ◌||◌, ◌∷◌, Alien, Bool, COMMANDS, Cause, FieldKind, LINE_LIMIT, List, None, OPTIONS, Option, Shape, Some, WordFault, after, bytes_eq, codes}
+use Rattle.refusal_reasons.specs.Words.{deadline_said, decimal, fields, if◌then◌else◌, is_some, map, nat_lt, policy_said, suc, zero}
+use Rattle.refusal_reasons.specs.{Causes.alien_in, Causes.cause_of, Guesses.nearest, Shown.shown_alone, Shown.shown_text}
 
 -- the field at the index; no bytes if there is none
 unfoldable pub field_at : List (List ℕ) → ℕ → List ℕ
@@ -34,39 +16,39 @@ behind (word ∷ words) = words
 
 -- the fields that the shape has behind the first word, each after a space
 abbrev pub shape_text : Shape → List ℕ
-shape_text shape.Open = codes " A [JOINER] [deadline=N] [move-on] [shield]"
-shape_text shape.Fork = codes " A S NAME"
-shape_text shape.Succeed = codes " K VALUE"
-shape_text shape.Fail = codes " K NAME"
-shape_text shape.Move = codes " S N"
-shape_text shape.Tick = codes " N"
-shape_text shape.Bind = codes " A NAME VALUE"
-shape_text shape.Get = codes " A NAME"
-shape_text shape.Actor = codes " A"
-shape_text shape.Scope = codes " S"
-shape_text shape.Task = codes " K"
-shape_text shape.ActorScope = codes " A S"
-shape_text shape.ActorTask = codes " A K"
+shape_text Shape.Open = codes " A [JOINER] [deadline=N] [move-on] [shield]"
+shape_text Shape.Fork = codes " A S NAME"
+shape_text Shape.Succeed = codes " K VALUE"
+shape_text Shape.Fail = codes " K NAME"
+shape_text Shape.Move = codes " S N"
+shape_text Shape.Tick = codes " N"
+shape_text Shape.Bind = codes " A NAME VALUE"
+shape_text Shape.Get = codes " A NAME"
+shape_text Shape.Actor = codes " A"
+shape_text Shape.Scope = codes " S"
+shape_text Shape.Task = codes " K"
+shape_text Shape.ActorScope = codes " A S"
+shape_text Shape.ActorTask = codes " A K"
 
 -- the letter or word that stands for a field of the kind
 abbrev pub kind_text : FieldKind → List ℕ
-kind_text kind.Actor = codes "A"
-kind_text kind.Scope = codes "S"
-kind_text kind.Task = codes "K"
-kind_text kind.Moment = codes "N"
-kind_text kind.Deadline = codes "N"
-kind_text kind.Name = codes "NAME"
-kind_text kind.Value = codes "VALUE"
+kind_text FieldKind.Actor = codes "A"
+kind_text FieldKind.Scope = codes "S"
+kind_text FieldKind.Task = codes "K"
+kind_text FieldKind.Moment = codes "N"
+kind_text FieldKind.Deadline = codes "N"
+kind_text FieldKind.Name = codes "NAME"
+kind_text FieldKind.Value = codes "VALUE"
 
 -- what a field of the kind must be
 abbrev pub wanted_text : FieldKind → List ℕ
-wanted_text kind.Actor = codes "a number from 0 to 4294967295"
-wanted_text kind.Scope = codes "a number from 0 to 4294967295"
-wanted_text kind.Task = codes "a number from 0 to 4294967295"
-wanted_text kind.Moment = codes "a number from 0 to 18446744073709551615"
-wanted_text kind.Deadline = codes "a number from 0 to 18446744073709551615, or never"
-wanted_text kind.Name = codes "1 to 24 of a..z, 0..9, -, _ and ., and begin with a..z"
-wanted_text kind.Value = codes "a 64-bit integer or a name"
+wanted_text FieldKind.Actor = codes "a number from 0 to 4294967295"
+wanted_text FieldKind.Scope = codes "a number from 0 to 4294967295"
+wanted_text FieldKind.Task = codes "a number from 0 to 4294967295"
+wanted_text FieldKind.Moment = codes "a number from 0 to 18446744073709551615"
+wanted_text FieldKind.Deadline = codes "a number from 0 to 18446744073709551615, or never"
+wanted_text FieldKind.Name = codes "1 to 24 of a..z, 0..9, -, _ and ., and begin with a..z"
+wanted_text FieldKind.Value = codes "a 64-bit integer or a name"
 
 -- the form of this shape, of which the first field is the word
 abbrev pub form_text : List (List ℕ) → Shape → List ℕ
@@ -74,10 +56,10 @@ form_text words s = shown_text (field_at words 0) ++ shape_text s
 
 -- the sentence of what other systems leave in a word, which quotes' plans have too
 abbrev pub alien_text : Alien → List ℕ
-alien_text alien.ByteOrderMark = codes "a byte order mark: a script is text without one"
-alien_text alien.Utf16 = codes "a byte 0, as in UTF-16: a script is ASCII text"
-alien_text alien.CarriageReturn = codes "a carriage return: a line ends in a line feed alone"
-alien_text alien.Tab = codes "a tab: fields stand between spaces"
+alien_text Alien.ByteOrderMark = codes "a byte order mark: a script is text without one"
+alien_text Alien.Utf16 = codes "a byte 0, as in UTF-16: a script is ASCII text"
+alien_text Alien.CarriageReturn = codes "a carriage return: a line ends in a line feed alone"
+alien_text Alien.Tab = codes "a tab: fields stand between spaces"
 
 -- these words, but where the word has bytes that no script has, what they are
 abbrev pub alien_or : Option Alien → List ℕ → List ℕ
@@ -90,16 +72,16 @@ strange_text b = if nat_lt 127 b then codes "a byte that is not ASCII" else show
 
 -- why a word is not what it must be, behind what it must be
 unfoldable pub cause_text : Cause → List ℕ
-cause_text cause.Plain = []
-cause_text cause.TooGreat = codes " (it is too great)"
-cause_text cause.TooWide = codes " (it has more than 64 bits)"
-cause_text cause.NeedlessZero = codes " (it begins with a needless 0)"
-cause_text cause.Signed = codes " (it has a sign)"
-cause_text (cause.NoDigit other) = codes " (" ++ (strange_text other ++ codes " is not a digit)")
-cause_text cause.HasUnit = codes " (it is in milliseconds, without a unit)"
-cause_text (cause.TooLongName bytes) = codes " (it has " ++ (decimal bytes ++ codes " bytes)")
-cause_text (cause.BeginsWith first) = codes " (it begins with " ++ (strange_text first ++ codes ")")
-cause_text (cause.HasByte other) = codes " (it has " ++ (strange_text other ++ codes ")")
+cause_text Cause.Plain = []
+cause_text Cause.TooGreat = codes " (it is too great)"
+cause_text Cause.TooWide = codes " (it has more than 64 bits)"
+cause_text Cause.NeedlessZero = codes " (it begins with a needless 0)"
+cause_text Cause.Signed = codes " (it has a sign)"
+cause_text (Cause.NoDigit other) = codes " (" ++ (strange_text other ++ codes " is not a digit)")
+cause_text Cause.HasUnit = codes " (it is in milliseconds, without a unit)"
+cause_text (Cause.TooLongName bytes) = codes " (it has " ++ (decimal bytes ++ codes " bytes)")
+cause_text (Cause.BeginsWith first) = codes " (it begins with " ++ (strange_text first ++ codes ")")
+cause_text (Cause.HasByte other) = codes " (it has " ++ (strange_text other ++ codes ")")
 
 -- why the word is not of the kind
 abbrev pub misfit_text : FieldKind → List ℕ → List ℕ
@@ -133,7 +115,7 @@ abbrev pub is_option : List ℕ → Bool
 is_option word = is_some (policy_said word) || (is_some (deadline_said word) || (bytes_eq word (codes "move-on") || bytes_eq word (codes "shield")))
 
 abbrev pub other_text : List ℕ → Option (List ℕ) → List ℕ
-other_text word (Some moment) = misfit_text kind.Moment moment
+other_text word (Some moment) = misfit_text FieldKind.Moment moment
 other_text word None = codes "unknown option: " ++ (shown_text word ++ guess_text (nearest option_words word))
 
 abbrev pub stray_text : List ℕ → List ℕ
@@ -145,12 +127,12 @@ later_field words n = field_at (behind words) n
 
 -- why a line with these fields is no command
 unfoldable pub fault_text : List (List ℕ) → WordFault → List ℕ
-fault_text words (fault.TooLong bytes) = codes "the line has " ++ (decimal bytes ++ (codes " bytes, and the limit is " ++ decimal LINE_LIMIT))
-fault_text words fault.NoForm = unknown_text (field_at words 0)
-fault_text words (fault.Wrong s n k) = form_text words s ++ (codes ": " ++ wrong_text k (later_field words n))
-fault_text words (fault.Missing s k) = form_text words s ++ (codes ": " ++ (kind_text k ++ codes " is missing"))
-fault_text words (fault.Extra s n) = form_text words s ++ (codes ": " ++ extra_text (later_field words n))
-fault_text words (fault.Stray n) = form_text words shape.Open ++ (codes ": " ++ stray_text (later_field words n))
+fault_text words (WordFault.TooLong bytes) = codes "the line has " ++ (decimal bytes ++ (codes " bytes, and the limit is " ++ decimal LINE_LIMIT))
+fault_text words WordFault.NoForm = unknown_text (field_at words 0)
+fault_text words (WordFault.Wrong s n k) = form_text words s ++ (codes ": " ++ wrong_text k (later_field words n))
+fault_text words (WordFault.Missing s k) = form_text words s ++ (codes ": " ++ (kind_text k ++ codes " is missing"))
+fault_text words (WordFault.Extra s n) = form_text words s ++ (codes ": " ++ extra_text (later_field words n))
+fault_text words (WordFault.Stray n) = form_text words Shape.Open ++ (codes ": " ++ stray_text (later_field words n))
 
 -- the same of a line
 abbrev pub line_fault_text : List ℕ → WordFault → List ℕ

@@ -1,39 +1,25 @@
 -- Why a line is no command: the first of its fields that its form does not have there.
-use Rattle.std.specs.Prelude.{ℕ, ◌+◌, Bool, nat_lt, List, [], ◌∷◌, length, Option, Some, None, option_map, is_some, codes, if◌then◌else◌}
-use Rattle.std.specs.Str.{bytes_eq}
-use Rattle.script_words.specs.declared.lines.TheConstants.{LINE_LIMIT}
-use Rattle.script_words.specs.Fields.{fields}
-use Rattle.script_words.specs.Forms.{new_deadline_said}
-use Rattle.script_words.specs.Joiners.{policy_said}
-use Rattle.script_words.specs.Keywords.{keyword_said}
-use Rattle.script_words.specs.Lines.{begins_comment}
-use Rattle.script_words.specs.Numbers.{small_said, moment_said}
-use Rattle.script_words.specs.Openings.{policy_next, deadline_said, deadline_next, flag_next}
-use Rattle.script_words.specs.Words.{name_said, value_said}
-use Rattle.refusal_reasons.specs.declared.faults.WordFault.{WordFault}
-use Rattle.refusal_reasons.specs.declared.faults.WordFault.TheVariants as fault
-use Rattle.refusal_reasons.specs.declared.shapes.FieldKind.{FieldKind}
-use Rattle.refusal_reasons.specs.declared.shapes.FieldKind.TheVariants as kind
-use Rattle.refusal_reasons.specs.declared.shapes.Shape.{Shape}
-use Rattle.refusal_reasons.specs.declared.shapes.Shape.TheVariants as shape
-use Rattle.refusal_reasons.specs.Shapes.{shape_of, kinds}
+use Rattle.refusal_reasons.specs.Words.{[], ℕ, ◌+◌, ◌∷◌, Bool, FieldKind, LINE_LIMIT, List, None, Option, Shape, Some, WordFault, begins_comment, bytes_eq, codes, deadline_next, deadline_said, fields}
+use Rattle.refusal_reasons.specs.Words.{flag_next, if◌then◌else◌, is_some, keyword_said, length, moment_said, name_said, nat_lt, new_deadline_said, option_map, policy_next, policy_said, small_said}
+use Rattle.refusal_reasons.specs.Words.{value_said}
+use Rattle.refusal_reasons.specs.Shapes.{kinds, shape_of}
 
 -- the word is what a field of this kind is to be
 abbrev pub is_kind : FieldKind → List ℕ → Bool
-is_kind kind.Actor word = is_some (small_said word)
-is_kind kind.Scope word = is_some (small_said word)
-is_kind kind.Task word = is_some (small_said word)
-is_kind kind.Moment word = is_some (moment_said word)
-is_kind kind.Deadline word = is_some (new_deadline_said word)
-is_kind kind.Name word = is_some (name_said word)
-is_kind kind.Value word = is_some (value_said word)
+is_kind FieldKind.Actor word = is_some (small_said word)
+is_kind FieldKind.Scope word = is_some (small_said word)
+is_kind FieldKind.Task word = is_some (small_said word)
+is_kind FieldKind.Moment word = is_some (moment_said word)
+is_kind FieldKind.Deadline word = is_some (new_deadline_said word)
+is_kind FieldKind.Name word = is_some (name_said word)
+is_kind FieldKind.Value word = is_some (value_said word)
 
 -- the first of these fields, counted from n, that is not of its kind, is missing or is too many
 unfoldable pub misfit : Shape → ℕ → List FieldKind → List (List ℕ) → Option WordFault
 misfit s n [] [] = None
-misfit s n [] (word ∷ words) = Some (fault.Extra s n)
-misfit s n (k ∷ ks) [] = Some (fault.Missing s k)
-misfit s n (k ∷ ks) (word ∷ words) = if is_kind k word then misfit s (n + 1) ks words else Some (fault.Wrong s n k)
+misfit s n [] (word ∷ words) = Some (WordFault.Extra s n)
+misfit s n (k ∷ ks) [] = Some (WordFault.Missing s k)
+misfit s n (k ∷ ks) (word ∷ words) = if is_kind k word then misfit s (n + 1) ks words else Some (WordFault.Wrong s n k)
 
 -- what is left of the words after the actor of an open, without a joiner, a deadline and the flags
 unfoldable pub left_over : List (List ℕ) → List (List ℕ)
@@ -68,21 +54,21 @@ options_taken words =
 -- the word that is left over, at the index, is none of an open's options, or out of order, or twice
 abbrev pub stray_fault : ℕ → List (List ℕ) → Option WordFault
 stray_fault n [] = None
-stray_fault n (word ∷ words) = Some (fault.Stray n)
+stray_fault n (word ∷ words) = Some (WordFault.Stray n)
 
 -- of an open the actor is looked at, and then what is left over
 abbrev pub open_fault : List (List ℕ) → Option WordFault
-open_fault [] = Some (fault.Missing shape.Open kind.Actor)
-open_fault (actor ∷ words) = if is_kind kind.Actor actor then stray_fault (1 + options_taken words) (left_over words) else Some (fault.Wrong shape.Open 0 kind.Actor)
+open_fault [] = Some (WordFault.Missing Shape.Open FieldKind.Actor)
+open_fault (actor ∷ words) = if is_kind FieldKind.Actor actor then stray_fault (1 + options_taken words) (left_over words) else Some (WordFault.Wrong Shape.Open 0 FieldKind.Actor)
 
 -- why these fields are not those of the shape
 abbrev pub shape_fault : Shape → List (List ℕ) → Option WordFault
-shape_fault shape.Open args = open_fault args
+shape_fault Shape.Open args = open_fault args
 shape_fault s args = misfit s 0 (kinds s) args
 
 -- the same, where a form begins with the word
 abbrev pub form_fault : Option Shape → List (List ℕ) → Option WordFault
-form_fault None args = Some fault.NoForm
+form_fault None args = Some WordFault.NoForm
 form_fault (Some s) args = shape_fault s args
 
 -- no field, or a first one that begins with `#`: there is nothing to say
@@ -92,4 +78,4 @@ fields_fault (word ∷ args) = if begins_comment word then None else form_fault 
 
 -- why the line, without its line feed, is no command, if it is none
 unfoldable pub fault_of : List ℕ → Option WordFault
-fault_of line = if nat_lt LINE_LIMIT (length line) then Some (fault.TooLong (length line)) else fields_fault (fields line)
+fault_of line = if nat_lt LINE_LIMIT (length line) then Some (WordFault.TooLong (length line)) else fields_fault (fields line)

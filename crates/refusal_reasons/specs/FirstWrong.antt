@@ -1,16 +1,6 @@
 -- That a fault names the first field of its line that is wrong.
-use Rattle.std.specs.Prelude.{◌≡◌, ℕ, ◌+◌, ◌<◌, true, false, List, [], ◌∷◌, ◌++◌, length, Option, Some, None, option_map}
-use Rattle.script_words.specs.declared.lines.TheConstants.{LINE_LIMIT}
-use Rattle.script_words.specs.Fields.{fields}
-use Rattle.script_words.specs.Keywords.{keyword_said}
-use Rattle.refusal_reasons.specs.declared.faults.WordFault.{WordFault}
-use Rattle.refusal_reasons.specs.declared.faults.WordFault.TheVariants as fault
-use Rattle.refusal_reasons.specs.declared.shapes.FieldKind.{FieldKind}
-use Rattle.refusal_reasons.specs.declared.shapes.FieldKind.TheVariants as kind
-use Rattle.refusal_reasons.specs.declared.shapes.Shape.{Shape}
-use Rattle.refusal_reasons.specs.declared.shapes.Shape.TheVariants as shape
-use Rattle.refusal_reasons.specs.Shapes.{shape_of, kinds}
-use Rattle.refusal_reasons.specs.Faults.{is_kind, left_over, fault_of}
+use Rattle.refusal_reasons.specs.Words.{[], ℕ, ◌++◌, ◌+◌, ◌<◌, ◌∷◌, ◌≡◌, FieldKind, LINE_LIMIT, List, None, Option, Shape, Some, WordFault, false, fields, keyword_said, length, option_map, true}
+use Rattle.refusal_reasons.specs.{Faults.fault_of, Faults.is_kind, Faults.left_over, Shapes.kinds, Shapes.shape_of}
 
 -- the words are of these kinds, one each
 abbrev pub AreOf : List FieldKind → List (List ℕ) → Type 0
@@ -55,22 +45,22 @@ pub record NamesStray (args : List (List ℕ)) (n : ℕ) : Type 0 where
   pub word : List ℕ
   pub others : List (List ℕ)
   pub whole : args ≡ actor ∷ (options ++ word ∷ others)
-  pub right : is_kind kind.Actor actor ≡ true
+  pub right : is_kind FieldKind.Actor actor ≡ true
   pub left : left_over (options ++ word ∷ others) ≡ word ∷ others
   pub place : n ≡ 1 + length options
 
 -- the fault of words that are to be of these kinds, in a form of this shape
 abbrev pub Names : Shape → List FieldKind → List (List ℕ) → WordFault → Type 0
-Names s ks args (fault.TooLong bytes) = ⊥
-Names s ks args fault.NoForm = ⊥
-Names s ks args (fault.Wrong t n k) = (t ≡ s) × NamesWrong ks args n k
-Names s ks args (fault.Missing t k) = (t ≡ s) × NamesMissing ks args k
-Names s ks args (fault.Extra t n) = (t ≡ s) × NamesExtra ks args n
-Names s ks args (fault.Stray n) = (s ≡ shape.Open) × NamesStray args n
+Names s ks args (WordFault.TooLong bytes) = ⊥
+Names s ks args WordFault.NoForm = ⊥
+Names s ks args (WordFault.Wrong t n k) = (t ≡ s) × NamesWrong ks args n k
+Names s ks args (WordFault.Missing t k) = (t ≡ s) × NamesMissing ks args k
+Names s ks args (WordFault.Extra t n) = (t ≡ s) × NamesExtra ks args n
+Names s ks args (WordFault.Stray n) = (s ≡ Shape.Open) × NamesStray args n
 
 -- the fault of words behind a first one, with which a form of this shape begins, or none
 abbrev pub NamesIn : Option Shape → List (List ℕ) → WordFault → Type 0
-NamesIn None args fault.NoForm = Unit {0}
+NamesIn None args WordFault.NoForm = Unit {0}
 NamesIn None args _ = ⊥
 NamesIn (Some s) args f = Names s (kinds s) args f
 
@@ -81,7 +71,7 @@ NamesField (word ∷ args) f = NamesIn (option_map shape_of (keyword_said word))
 
 -- the fault of a line: it has too many bytes, or else its first field that is wrong is named
 abbrev pub NamesFirst : List ℕ → WordFault → Type 0
-NamesFirst line (fault.TooLong bytes) = (bytes ≡ length line) × (LINE_LIMIT < length line)
+NamesFirst line (WordFault.TooLong bytes) = (bytes ≡ length line) × (LINE_LIMIT < length line)
 NamesFirst line f = NamesField (fields line) f
 
 -- each fault names the first field that is wrong

@@ -1,68 +1,49 @@
 -- Which refusal a reason is of, and that the reasons are those of the refusals.
-use Rattle.std.specs.Prelude.{◌≡◌, ℕ, Result, Ok, Err}
-use Rattle.scope_rules.specs.declared.types.capacity.Limits.{Limits}
-use Rattle.scope_rules.specs.declared.types.events.Event.{Event}
-use Rattle.scope_rules.specs.declared.types.refusals.Refusal.{Refusal}
-use Rattle.scope_rules.specs.declared.types.refusals.Refusal.TheVariants as refusal
-use Rattle.scope_rules.specs.Checks.{Checked, scope_check, task_check}
-use Rattle.scope_rules.specs.History.{History}
-use Rattle.scope_rules.specs.Replies.{result_reply, fault_reply, binding_reply}
-use Rattle.scope_rules.specs.Table.{check_of, retire_check, until_check}
-use Rattle.script_words.specs.declared.commands.Query.{Query}
-use Rattle.script_words.specs.declared.commands.Query.TheVariants as query
-use Rattle.refusal_reasons.specs.declared.reasons.Reason.{Reason}
-use Rattle.refusal_reasons.specs.declared.reasons.Reason.TheVariants as reason
-use Rattle.refusal_reasons.specs.declared.reasons.ScopeObstacle.{ScopeObstacle}
-use Rattle.refusal_reasons.specs.declared.reasons.ScopeObstacle.TheVariants as scope_is
-use Rattle.refusal_reasons.specs.declared.reasons.TaskObstacle.{TaskObstacle}
-use Rattle.refusal_reasons.specs.declared.reasons.TaskObstacle.TheVariants as task_is
-use Rattle.refusal_reasons.specs.declared.reasons.ActorObstacle.{ActorObstacle}
-use Rattle.refusal_reasons.specs.declared.reasons.ActorObstacle.TheVariants as actor_is
-use Rattle.refusal_reasons.specs.declared.reasons.RoomObstacle.{RoomObstacle}
-use Rattle.refusal_reasons.specs.declared.reasons.RoomObstacle.TheVariants as room_is
-use Rattle.refusal_reasons.specs.Reasons.{Explained, event_reason, retire_reason, query_reason}
+use Rattle.refusal_reasons.specs.Words.{ℕ, ◌≡◌, ActorObstacle, Checked, Err, Event, History, Limits, Ok, Query, Reason, Refusal, Result, RoomObstacle, ScopeObstacle, TaskObstacle, binding_reply}
+use Rattle.refusal_reasons.specs.Words.{check_of, fault_reply, result_reply, retire_check, scope_check, task_check, until_check}
+use Rattle.refusal_reasons.specs.Reasons.{Explained, event_reason, query_reason, retire_reason}
 
 abbrev pub scope_refusal : ScopeObstacle → Refusal
-scope_refusal (scope_is.Unknown opened) = refusal.NoScope
-scope_refusal (scope_is.LetGo last) = refusal.Retired
-scope_refusal (scope_is.Owned owner actor) = refusal.NotOwner
-scope_refusal (scope_is.Closing event) = refusal.Closed
-scope_refusal (scope_is.Closed event) = refusal.Closed
-scope_refusal (scope_is.ClosingAround actor event) = refusal.Closed
-scope_refusal (scope_is.Joined event) = refusal.AlreadyJoined
-scope_refusal scope_is.NotClosing = refusal.WrongStage
-scope_refusal (scope_is.Awaits task stage) = refusal.NotReady
-scope_refusal (scope_is.BoundOtherwise actor pairs) = refusal.Structure
-scope_refusal (scope_is.Unclosed actor) = refusal.Structure
-scope_refusal (scope_is.NotInnermost actor innermost) = refusal.Structure
+scope_refusal (ScopeObstacle.Unknown opened) = Refusal.NoScope
+scope_refusal (ScopeObstacle.LetGo last) = Refusal.Retired
+scope_refusal (ScopeObstacle.Owned owner actor) = Refusal.NotOwner
+scope_refusal (ScopeObstacle.Closing event) = Refusal.Closed
+scope_refusal (ScopeObstacle.Closed event) = Refusal.Closed
+scope_refusal (ScopeObstacle.ClosingAround actor event) = Refusal.Closed
+scope_refusal (ScopeObstacle.Joined event) = Refusal.AlreadyJoined
+scope_refusal ScopeObstacle.NotClosing = Refusal.WrongStage
+scope_refusal (ScopeObstacle.Awaits task stage) = Refusal.NotReady
+scope_refusal (ScopeObstacle.BoundOtherwise actor pairs) = Refusal.Structure
+scope_refusal (ScopeObstacle.Unclosed actor) = Refusal.Structure
+scope_refusal (ScopeObstacle.NotInnermost actor innermost) = Refusal.Structure
 
 abbrev pub task_refusal : TaskObstacle → Refusal
-task_refusal (task_is.Unknown forked) = refusal.NoTask
-task_refusal (task_is.LetGo last) = refusal.Retired
-task_refusal (task_is.AtStage stage wanted) = refusal.WrongStage
-task_refusal (task_is.Owned scope owner actor) = refusal.NotOwner
-task_refusal (task_is.NotJoined scope) = refusal.NotJoined
-task_refusal (task_is.Unreadable scope stage) = refusal.Unavailable
-task_refusal (task_is.Failed fault) = refusal.NotSuccess
-task_refusal (task_is.Succeeded value) = refusal.NotFailed
+task_refusal (TaskObstacle.Unknown forked) = Refusal.NoTask
+task_refusal (TaskObstacle.LetGo last) = Refusal.Retired
+task_refusal (TaskObstacle.AtStage stage wanted) = Refusal.WrongStage
+task_refusal (TaskObstacle.Owned scope owner actor) = Refusal.NotOwner
+task_refusal (TaskObstacle.NotJoined scope) = Refusal.NotJoined
+task_refusal (TaskObstacle.Unreadable scope stage) = Refusal.Unavailable
+task_refusal (TaskObstacle.Failed fault) = Refusal.NotSuccess
+task_refusal (TaskObstacle.Succeeded value) = Refusal.NotFailed
 
 abbrev pub actor_refusal : ActorObstacle → Refusal
-actor_refusal actor_is.NotMain = refusal.NotOwner
-actor_refusal actor_is.NoPair = refusal.NotBound
-actor_refusal (actor_is.HeldPair pairs) = refusal.Structure
-actor_refusal (actor_is.Unbound key) = refusal.NotBound
+actor_refusal ActorObstacle.NotMain = Refusal.NotOwner
+actor_refusal ActorObstacle.NoPair = Refusal.NotBound
+actor_refusal (ActorObstacle.HeldPair pairs) = Refusal.Structure
+actor_refusal (ActorObstacle.Unbound key) = Refusal.NotBound
 
 abbrev pub room_refusal : RoomObstacle → Refusal
-room_refusal (room_is.Levels level) = refusal.TooDeep
-room_refusal _ = refusal.TooMany
+room_refusal (RoomObstacle.Levels level) = Refusal.TooDeep
+room_refusal _ = Refusal.TooMany
 
 -- the refusal that the reason is of
 abbrev pub reason_refusal : Reason → Refusal
-reason_refusal (reason.Scope scope obstacle) = scope_refusal obstacle
-reason_refusal (reason.Task task obstacle) = task_refusal obstacle
-reason_refusal (reason.Actor actor obstacle) = actor_refusal obstacle
-reason_refusal (reason.Room obstacle) = room_refusal obstacle
-reason_refusal (reason.ClockBack wanted present) = refusal.ClockBack
+reason_refusal (Reason.Scope scope obstacle) = scope_refusal obstacle
+reason_refusal (Reason.Task task obstacle) = task_refusal obstacle
+reason_refusal (Reason.Actor actor obstacle) = actor_refusal obstacle
+reason_refusal (Reason.Room obstacle) = room_refusal obstacle
+reason_refusal (Reason.ClockBack wanted present) = Refusal.ClockBack
 
 -- what a check is that is refused for such a reason, or passes
 abbrev pub refusing : Explained → Checked
@@ -76,14 +57,14 @@ refused_alone (Err r) = Err r
 
 -- what a query is refused for
 unfoldable pub query_check : History → Query → Checked
-query_check h (query.State task) = task_check h task
-query_check h (query.Stage task) = task_check h task
-query_check h (query.Result actor task) = refused_alone (result_reply h actor task)
-query_check h (query.Fault actor task) = refused_alone (fault_reply h actor task)
-query_check h (query.Cause scope) = scope_check h scope
-query_check h (query.Until scope) = until_check h scope
-query_check h (query.Counts scope) = scope_check h scope
-query_check h (query.Get actor key) = refused_alone (binding_reply h actor key)
+query_check h (Query.State task) = task_check h task
+query_check h (Query.Stage task) = task_check h task
+query_check h (Query.Result actor task) = refused_alone (result_reply h actor task)
+query_check h (Query.Fault actor task) = refused_alone (fault_reply h actor task)
+query_check h (Query.Cause scope) = scope_check h scope
+query_check h (Query.Until scope) = until_check h scope
+query_check h (Query.Counts scope) = scope_check h scope
+query_check h (Query.Get actor key) = refused_alone (binding_reply h actor key)
 
 -- an event has a reason just if its row refuses it, and the reason is of that refusal
 abbrev pub EventsFit : Type 0

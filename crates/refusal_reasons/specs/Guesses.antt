@@ -1,6 +1,5 @@
 -- Which word is meant by one that differs from it by an edit, or by capitals.
-use Rattle.std.specs.Prelude.{ℕ, ◌==◌, ◌+◌, nat_le, Bool, false, ◌&&◌, ◌||◌, List, [], ◌∷◌, length, Option, Some, None, if◌then◌else◌}
-use Rattle.script_words.specs.Near.{is_near}
+use Rattle.refusal_reasons.specs.Words.{[], ℕ, ◌&&◌, ◌+◌, ◌==◌, ◌||◌, ◌∷◌, Bool, List, None, Option, Some, false, if◌then◌else◌, is_near, length, nat_le}
 
 -- the second byte is the first, or its small letter
 abbrev pub is_lower_of : ℕ → ℕ → Bool

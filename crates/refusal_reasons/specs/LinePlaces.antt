@@ -1,13 +1,7 @@
 -- Where a field stands in its line.
-use Rattle.std.specs.Prelude.{◌≡◌, ℕ, zero, suc, ◌+◌, ◌-◌, max, List, ◌++◌, length, take, drop, replicate, codes}
-use Rattle.std.specs.List.{position_or_len}
-use Rattle.script_words.specs.Fields.{is_space, fields, without_spaces}
-use Rattle.script_words.specs.declared.lines.TheConstants.{LINE_LIMIT}
-use Rattle.refusal_reasons.specs.declared.faults.WordFault.{WordFault}
-use Rattle.refusal_reasons.specs.declared.faults.WordFault.TheVariants as fault
-use Rattle.refusal_reasons.specs.declared.line_places.Place.{Place}
-use Rattle.refusal_reasons.specs.FaultSentences.{field_at}
-use Rattle.refusal_reasons.specs.Shown.{all_shown}
+use Rattle.refusal_reasons.specs.Words.{ℕ, ◌++◌, ◌+◌, ◌-◌, ◌≡◌, LINE_LIMIT, List, Place, WordFault, codes, drop, fields, is_space, length, max, position_or_len, replicate, suc, take, without_spaces}
+use Rattle.refusal_reasons.specs.Words.{zero}
+use Rattle.refusal_reasons.specs.{FaultSentences.field_at, Shown.all_shown}
 
 -- what stands behind the first field of a text
 abbrev pub behind_first : List ℕ → List ℕ
@@ -31,12 +25,12 @@ end_of line = record { column = length line + 1; width = 0 }
 
 -- if a line is wrong: at the byte behind the last that it may have, at a field, or at its end
 unfoldable pub place_of : List ℕ → WordFault → Place
-place_of line (fault.TooLong bytes) = record { column = LINE_LIMIT + 1; width = 0 }
-place_of line fault.NoForm = field_place line 0
-place_of line (fault.Wrong s n k) = field_place line (suc n)
-place_of line (fault.Missing s k) = end_of line
-place_of line (fault.Extra s n) = field_place line (suc n)
-place_of line (fault.Stray n) = field_place line (suc n)
+place_of line (WordFault.TooLong bytes) = record { column = LINE_LIMIT + 1; width = 0 }
+place_of line WordFault.NoForm = field_place line 0
+place_of line (WordFault.Wrong s n k) = field_place line (suc n)
+place_of line (WordFault.Missing s k) = end_of line
+place_of line (WordFault.Extra s n) = field_place line (suc n)
+place_of line (WordFault.Stray n) = field_place line (suc n)
 
 -- a field stands where it is said to
 abbrev pub PlacesFit : Type 0

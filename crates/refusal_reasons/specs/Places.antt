@@ -1,13 +1,6 @@
 -- By which event a scope came to stand as it does. Places are counted from 0 since the base, events from 1.
-use Rattle.std.specs.Prelude.{ℕ, Bool, not, nat_lt, min, Option, Some, None, List, length, if◌then◌else◌}
-use Rattle.std.specs.List.{find, position}
-use Rattle.scope_rules.specs.declared.types.events.Event.{Event}
-use Rattle.scope_rules.specs.Search.{earliest}
-use Rattle.scope_rules.specs.History.{History}
-use Rattle.scope_rules.specs.Owed.{begin_mark, marks}
-use Rattle.scope_rules.specs.Scopes.{joins, ends, closing_at}
-use Rattle.scope_rules.specs.Tasks.{stage, is_settled}
-use Rattle.scope_rules.specs.Nests.{tasks_of}
+use Rattle.refusal_reasons.specs.Words.{ℕ, Bool, Event, History, List, None, Option, Some, begin_mark, closing_at, earliest, ends, find, if◌then◌else◌, is_settled, joins, length, marks, min, nat_lt}
+use Rattle.refusal_reasons.specs.Words.{not, position, stage, tasks_of}
 
 -- the place, if the test holds of it
 abbrev pub place_if : (ℕ → Bool) → ℕ → Option ℕ

@@ -1,7 +1,5 @@
 -- Bytes of a script as they are shown.
-use Rattle.std.specs.Prelude.{ℕ, ◌&&◌, nat_le, nat_lt, List, [], ◌∷◌, ◌++◌, length, take, codes, if◌then◌else◌}
-use Rattle.std.specs.List.{flat_map}
-use Rattle.refusal_reasons.specs.declared.line_shown.TheConstants.{SHOWN_LIMIT}
+use Rattle.refusal_reasons.specs.Words.{[], ℕ, ◌&&◌, ◌++◌, ◌∷◌, List, SHOWN_LIMIT, codes, flat_map, if◌then◌else◌, length, nat_le, nat_lt, take}
 
 -- the byte, or `?` in place of one that is not from the space to `~`
 abbrev pub shown_byte : ℕ → ℕ

@@ -1,8 +1,6 @@
 //! Why a word is not what it is to be.
-ghost use Rattle.std.specs.Prelude.{◌≡◌, is_some};
-ghost use Rattle.script_words.specs.Joiners.{after};
-ghost use Rattle.refusal_reasons.specs.Causes.{has_mark, has_byte, alien_in, first_other, first_strange, digits_cause, number_cause, timed, inner_cause, name_cause, wide, is_zero, signed_cause, value_cause, cause_of};
-ghost use Rattle.scope_rules.specs.NameText.{is_letter, is_inner};
+ghost use Rattle.refusal_reasons.specs.{◌≡◌, after, alien_in, cause_of, digits_cause, first_other, first_strange, has_byte, has_mark, inner_cause, is_inner, is_letter, is_some, is_zero, name_cause};
+ghost use Rattle.refusal_reasons.specs.{number_cause, signed_cause, timed, value_cause, wide};
 
 use crate::shapes::FieldKind;
 

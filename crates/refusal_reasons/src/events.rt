@@ -1,11 +1,6 @@
 //! The events by which the scopes of a legal history were joined and closed, and how far their tasks have ended.
 
-ghost use Rattle.std.specs.Prelude.{◌≡◌, ◌<◌, IfSome, None, length, take};
-ghost use Rattle.std.specs.List.{find};
-ghost use Rattle.scope_rules.specs.declared.types.capacity.Limits.{Limits};
-ghost use Rattle.scope_rules.specs.Legal.{Legal};
-ghost use Rattle.scope_rules.specs.Nests.{tasks_of};
-ghost use Rattle.refusal_reasons.specs.Places.{joined_place, begun_place, closed_place, is_pending};
+ghost use Rattle.refusal_reasons.specs.{◌<◌, ◌≡◌, IfSome, Legal, Limits, None, begun_place, closed_place, find, is_pending, joined_place, length, take, tasks_of};
 
 use scope_rules::ScopeId;
 

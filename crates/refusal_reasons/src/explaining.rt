@@ -1,11 +1,7 @@
 //! Why each command is refused: the check of its row that failed, and what is said of it.
 
-ghost use Rattle.std.specs.Prelude.{◌≡◌, IfErr, OnOk};
-ghost use Rattle.scope_rules.specs.Checks.{actor_check, task_check};
-ghost use Rattle.scope_rules.specs.Table.{row_check};
-ghost use Rattle.scope_rules.specs.Tasks.{stage, state};
-ghost use Rattle.scope_checks.specs.Passes.{Passes};
-ghost use Rattle.refusal_reasons.specs.Reasons.{Presupposed, scope_of, explained, event_reason, retire_reason, reading_reason, query_reason, shows_value, shows_fault, sees};
+ghost use Rattle.refusal_reasons.specs.{◌≡◌, IfErr, OnOk, Passes, Presupposed, actor_check, event_reason, explained, query_reason, reading_reason, retire_reason, row_check, scope_of, sees};
+ghost use Rattle.refusal_reasons.specs.{shows_fault, shows_value, stage, state, task_check};
 
 use crate::events::Events;
 use crate::failures::{of_actor, of_task, reason_of, scope_of};

@@ -1,11 +1,7 @@
 //! What is said of each check that can fail.
 
-ghost use Rattle.std.specs.Prelude.{◌≡◌, ◌<◌, IfSome};
-ghost use Rattle.scope_rules.specs.Checks.{actor_check, scope_check};
-ghost use Rattle.scope_rules.specs.Tasks.{stage};
-ghost use Rattle.scope_checks.specs.Passes.{Passes};
-ghost use Rattle.refusal_reasons.specs.Places.{joined_place};
-ghost use Rattle.refusal_reasons.specs.Reasons.{Presupposed, owner_of, scope_of, event_at, pairs_of, closed_reason, closing_reason, around_reason, pending_reason, unclosed_reason, reason_of};
+ghost use Rattle.refusal_reasons.specs.{◌<◌, ◌≡◌, IfSome, Passes, Presupposed, actor_check, around_reason, closed_reason, closing_reason, event_at, joined_place, owner_of, pairs_of, pending_reason};
+ghost use Rattle.refusal_reasons.specs.{reason_of, scope_check, scope_of, stage, unclosed_reason};
 
 use crate::events::Events;
 use crate::places::{closing_place, pending_task};

@@ -2,10 +2,7 @@
 //! command takes it for, and that the fields stand where they are shown. The functions do nothing: their contracts
 //! are the laws.
 
-ghost use Rattle.refusal_reasons.specs.Called.{FieldsAreCalled};
-ghost use Rattle.refusal_reasons.specs.FirstWrong.{FaultsNameFirst};
-ghost use Rattle.refusal_reasons.specs.FaultFits.{FaultsFit};
-ghost use Rattle.refusal_reasons.specs.LinePlaces.{PlacesFit};
+ghost use Rattle.refusal_reasons.specs.{FaultsFit, FaultsNameFirst, FieldsAreCalled, PlacesFit};
 
 /// A line has a fault just where it is a bad word.
 #[tactic(auto, using(crate::proofs::FaultsFit::faults_fit))]

@@ -1,7 +1,5 @@
 //! Why a line is no command.
-ghost use Rattle.std.specs.Prelude.{◌≡◌, Some};
-ghost use Rattle.script_words.specs.Fields.{fields};
-ghost use Rattle.refusal_reasons.specs.Faults.{stray_fault, open_fault, shape_fault, fields_fault, fault_of};
+ghost use Rattle.refusal_reasons.specs.{◌≡◌, Some, fault_of, fields, fields_fault, open_fault, shape_fault, stray_fault};
 
 use crate::fields::{left_over, misfit, options_taken};
 use crate::shapes::{FieldKind, Shape, kinds, shape_of_word};

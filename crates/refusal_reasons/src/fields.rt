@@ -1,9 +1,6 @@
 //! Fields that are looked at one after the other.
-ghost use Rattle.std.specs.Prelude.{◌≡◌, ◌+◌, ◌≤◌, length, codes};
-ghost use Rattle.script_words.specs.Fields.{fields};
-ghost use Rattle.script_words.specs.Openings.{policy_next, deadline_next, flag_next};
-ghost use Rattle.refusal_reasons.specs.Faults.{misfit, left_over, count_of, count_next, is_joiner, is_due, is_flag, options_taken};
-ghost use Rattle.refusal_reasons.specs.FaultSentences.{field_at};
+ghost use Rattle.refusal_reasons.specs.{◌+◌, ◌≡◌, ◌≤◌, codes, count_next, count_of, deadline_next, field_at, fields, flag_next, is_due, is_flag, is_joiner, left_over, length, misfit, options_taken};
+ghost use Rattle.refusal_reasons.specs.{policy_next};
 
 use crate::faults::WordFault;
 use crate::shapes::{FieldKind, Shape};

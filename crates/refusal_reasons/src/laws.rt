@@ -1,7 +1,6 @@
 //! That the reasons are those of the refusals. The function does nothing: its contract is the law.
 
-ghost use Rattle.refusal_reasons.specs.Fits.{EventsFit, RetirementsFit, QueriesFit};
-ghost use Rattle.refusal_reasons.specs.Truth.{EventsAreTrue, RetirementsAreTrue, QueriesAreTrue};
+ghost use Rattle.refusal_reasons.specs.{EventsAreTrue, EventsFit, QueriesAreTrue, QueriesFit, RetirementsAreTrue, RetirementsFit};
 
 /// A command has a reason just if its checks refuse it, whatever the history, and the reason is of that
 /// refusal.

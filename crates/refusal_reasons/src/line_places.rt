@@ -1,8 +1,6 @@
 //! Where a fault is in its line.
-ghost use Rattle.std.specs.Prelude.{◌≡◌, ◌≤◌, ◌+◌, ◌-◌, max, suc, Some, length, replicate, take};
-ghost use Rattle.std.specs.List.{position_or_len};
-ghost use Rattle.script_words.specs.Fields.{is_space, without_spaces};
-ghost use Rattle.refusal_reasons.specs.LinePlaces.{behind_first, text_from, field_place, place_of, picture_text};
+ghost use Rattle.refusal_reasons.specs.{◌+◌, ◌-◌, ◌≡◌, ◌≤◌, Some, behind_first, field_place, is_space, length, max, picture_text, place_of, position_or_len, replicate, suc, take, text_from};
+ghost use Rattle.refusal_reasons.specs.{without_spaces};
 
 use crate::faults::WordFault;
 use crate::line_shown::AllShown;

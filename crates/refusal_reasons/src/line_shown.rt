@@ -1,6 +1,5 @@
 //! Bytes of a script as they are shown.
-ghost use Rattle.std.specs.Prelude.{◌≡◌, ◌<◌, Some, take};
-ghost use Rattle.refusal_reasons.specs.Shown.{shown_byte, shown_alone, all_shown, more_text, shown_text};
+ghost use Rattle.refusal_reasons.specs.{◌<◌, ◌≡◌, Some, all_shown, more_text, shown_alone, shown_byte, shown_text, take};
 
 use std::fmt;
 

@@ -1,10 +1,6 @@
 //! By which event a scope came to be closing, and which task it waits for.
 
-ghost use Rattle.std.specs.Prelude.{◌≡◌, ◌<◌, false, IfSome, length};
-ghost use Rattle.scope_rules.specs.Checks.{scope_check};
-ghost use Rattle.scope_rules.specs.Scopes.{closed};
-ghost use Rattle.scope_checks.specs.Passes.{Passes};
-ghost use Rattle.refusal_reasons.specs.Places.{begun_place, closing_place, earlier, if_after, is_pending, pending_task};
+ghost use Rattle.refusal_reasons.specs.{◌<◌, ◌≡◌, IfSome, Passes, begun_place, closed, closing_place, earlier, false, if_after, is_pending, length, pending_task, scope_check};
 
 use crate::events::Events;
 use scope_checks::Readings;

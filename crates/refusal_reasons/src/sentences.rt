@@ -1,8 +1,6 @@
 //! The sentences of faults.
-ghost use Rattle.std.specs.Prelude.{◌≡◌, None, Some, codes, option_map};
-ghost use Rattle.script_words.specs.Fields.{fields};
-ghost use Rattle.script_words.specs.Joiners.{after};
-ghost use Rattle.refusal_reasons.specs.FaultSentences.{behind, shape_text, kind_text, wanted_text, form_text, alien_text, strange_text, cause_text, misfit_text, wrong_text, guess_text, unknown_text, extra_text, is_option, other_text, stray_text, later_field, line_fault_text};
+ghost use Rattle.refusal_reasons.specs.{◌≡◌, None, Some, after, alien_text, behind, cause_text, codes, extra_text, fields, form_text, guess_text, is_option, kind_text, later_field, line_fault_text};
+ghost use Rattle.refusal_reasons.specs.{misfit_text, option_map, other_text, shape_text, strange_text, stray_text, unknown_text, wanted_text, wrong_text};
 
 use crate::causes::{Alien, Cause, alien_in, cause_of};
 use crate::faults::WordFault;

@@ -1,7 +1,5 @@
 //! The shapes of forms: which fields stand behind the first word.
-ghost use Rattle.std.specs.Prelude.{◌≡◌, option_map};
-ghost use Rattle.script_words.specs.Keywords.{keyword_said};
-ghost use Rattle.refusal_reasons.specs.Shapes.{shape_of, kinds};
+ghost use Rattle.refusal_reasons.specs.{◌≡◌, keyword_said, kinds, option_map, shape_of};
 
 use script_words::{Keyword, OneNumber, TwoNumbers, keyword_of};
 

@@ -1,7 +1,6 @@
 //! The sentences of reasons.
-ghost use Rattle.std.specs.Prelude.{◌≡◌, Some};
-ghost use Rattle.std.specs.Fmt.{decimal};
-ghost use Rattle.refusal_reasons.specs.Sentences.{line_of, actor_text, stage_text, innermost_text, scope_sentence, unreadable_text, task_sentence, actor_sentence, room_sentence, sentence};
+ghost use Rattle.refusal_reasons.specs.{◌≡◌, Some, actor_sentence, actor_text, decimal, innermost_text, room_sentence, scope_sentence, sentence, stage_text, task_sentence, unreadable_text};
+ghost use Rattle.refusal_reasons.specs.Sentences.{line_of};
 
 use crate::reasons::{ActorObstacle, Reason, RoomObstacle, ScopeObstacle, TaskObstacle};
 use scope_rules::{Actor, ScopeId, Stage, TaskId};

@@ -1,11 +1,6 @@
 -- What was forked before a place, and how many scopes were opened there.
-use Rattle.std.proofs.Common.{◌≡◌, ℕ, ◌≤◌, Option, Some, None, refl, ap, sym, ◌∙◌, arith}
-use Rattle.std.proofs.lemmas.List.{length-take}
-use Rattle.std.specs.Option.{option_map_or}
-use Rattle.scope_rules.specs.declared.types.records.Forking.{Forking}
-use Rattle.scope_rules.specs.History.{History, before, forking, opened_count, is_open}
-use Rattle.scope_rules.proofs.Earlier.{forking_since, forking_within}
-use Rattle.scope_rules.proofs.Prefixes.{count_by-take-le}
+use Rattle.run_picture.specs.{ℕ, ◌≡◌, ◌≤◌, Forking, History, None, Option, Some, before, forking, is_open, opened_count, option_map_or}
+use Rattle.run_picture.proofs.Lemmas.{◌∙◌, ap, arith, count_by-take-le, forking_since, forking_within, length-take, refl, sym}
 
 -- what was not forked at all, and what was forked at the place or behind it
 pub forking_never : (h : History) (k n : ℕ) → forking h k ≡ None → forking (before h n) k ≡ None

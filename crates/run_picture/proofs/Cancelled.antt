@@ -1,37 +1,11 @@
 -- The marks of cancels.
-use Rattle.std.proofs.Common.{◌≡◌, ◌≢◌, ◌⊎◌, inl, inr, if◌then◌else◌, ◌-◌, ℕ, ◌+◌, ◌<◌, ◌≤◌, ◌==◌, ◌||◌, ◌&&◌, nat_lt, nat_le, max, unwrap_or, Bool, true, false, cond, is_some, Option, Some, None, option_map, List, count_by, sum_by, refl, ap, sym, ◌∙◌, arith}
-use Rattle.std.proofs.lemmas.Bool.{cases_eq, eq-eqb, ne_eqb, le-leb, le-ltb, leb-true, lt-ltb, ltb-true}
-use Rattle.scope_rules.proofs.EarliestLaws.{some_none}
-use Rattle.std.specs.Option.{option_and_then, option_map_or}
-use Rattle.scope_checks.specs.Queries.{cancellation}
-use Rattle.scope_rules.specs.declared.types.answers.Cause.{Cause}
-use Rattle.scope_rules.specs.declared.types.records.FirstCancel.{FirstCancel}
-use Rattle.scope_rules.specs.declared.types.records.Forking.{Forking}
-use Rattle.scope_rules.specs.declared.types.records.Opening.{Opening}
-use Rattle.scope_rules.specs.Cancels.{cancelled_at, cancelled_before, cause, first_cancel, is_cancelled}
-use Rattle.scope_rules.specs.History.{History, forked_count, forking, opened_count, opening, scope_numbers, scopes}
-use Rattle.scope_rules.proofs.Staying.{cancel_opened}
-use Rattle.run_picture.specs.declared.marks.Mark.TheVariants as mark
-use Rattle.run_picture.specs.declared.marks.ShownMark.{ShownMark}
-use Rattle.run_picture.specs.declared.rows.Folded.{Folded}
-use Rattle.run_picture.specs.declared.rows.Row.{Row}
-use Rattle.run_picture.specs.declared.strokes.Reach.{Reach}
-use Rattle.run_picture.specs.Cancels.{cancel_drawn, cancel_figures, is_accident, source_y}
-use Rattle.run_picture.specs.Chart.{drawn_rows, row_of}
-use Rattle.run_picture.specs.Drawing.{Blank, all, count_in, in_view}
-use Rattle.run_picture.specs.Lanes.{ended, row_drawn, scope_lane, task_lane}
-use Rattle.run_picture.specs.Marked.{EachCancelHasOneMark, cancel_place, is_cancel_of, is_number, no_number, no_subject}
-use Rattle.run_picture.specs.Nodes.{node_count, scope_node}
-use Rattle.run_picture.specs.Picture.{indexes, row_at}
-use Rattle.run_picture.specs.Sheet.{Sheet}
-use Rattle.run_picture.specs.Sites.{mark_at, scope_row, x_in}
-use Rattle.run_picture.specs.Spots.{row_y}
-use Rattle.run_picture.specs.View.{shows}
-use Rattle.run_picture.specs.declared.view.View.{View}
-use Rattle.run_picture.proofs.Counted.{once_counted}
+use Rattle.run_picture.specs.{ℕ, ◌&&◌, ◌+◌, ◌-◌, ◌<◌, ◌==◌, ◌≡◌, ◌≤◌, Blank, Bool, Cause, EachCancelHasOneMark, FirstCancel, History, None, Opening, Option, Sheet.Sheet, Some, Words.View, all}
+use Rattle.run_picture.specs.{cancel_drawn, cancel_figures, cancel_place, cancellation, cancelled_at, cause, cond, count_in, drawn_rows, false, first_cancel, forked_count, if◌then◌else◌, in_view}
+use Rattle.run_picture.specs.{indexes, is_cancel_of, is_cancelled, is_number, is_some, max, nat_le, nat_lt, no_number, no_subject, node_count, opened_count, opening, option_and_then, option_map}
+use Rattle.run_picture.specs.{option_map_or, row_at, row_of, scope_numbers, scope_row, scopes, shows, true, unwrap_or}
+use Rattle.run_picture.proofs.Lemmas.{◌∙◌, ◌≢◌, ◌⊎◌, ap, arith, cancel_opened, cases_eq, inl, inr, le-leb, le-ltb, leb-true, lt-ltb, ltb-true, ne_eqb, refl, some_none, sym}
 use Rattle.run_picture.proofs.Figured.{IsKind, TaskKind, band_none, events_none, figure_kind, lane_none, moments_none, shields_none}
-use Rattle.run_picture.proofs.Rowed.{no_rows, rows_drawn, sum_zero}
-use Rattle.run_picture.proofs.Truthful.{cancel_there}
+use Rattle.run_picture.proofs.{Counted.once_counted, Rowed.no_rows, Rowed.rows_drawn, Rowed.sum_zero, Truthful.cancel_there}
 
 cancel_kind : (s : ℕ) → IsKind (is_cancel_of s)
 cancel_kind s = figure_kind no_subject no_number (is_number s)

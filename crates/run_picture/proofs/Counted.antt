@@ -1,13 +1,7 @@
 -- How many parts of a kind there are, row after row and number after number.
-use Rattle.std.proofs.Common.{◌≡◌, ℕ, zero, suc, ◌+◌, ◌<◌, ◌≤◌, ◌==◌, ◌&&◌, nat_lt, nat_le, Bool, true, false, cond, Option, Some, None, List, [], ◌∷◌, ◌++◌, length, take, slice_get, count_by, sum_by, refl, ap, sym, ◌∙◌, arith}
-use Rattle.std.proofs.lemmas.List.{take_all}
-use Rattle.std.proofs.lemmas.List.Sums.{sum_by-append}
-use Rattle.std.specs.List.{range_with_len}
-use Rattle.std.specs.Option.{option_map_or}
-use Rattle.scope_rules.proofs.Numbers.{range_push}
-use Rattle.scope_rules.proofs.Prefixes.{take_at}
-use Rattle.run_picture.specs.declared.rows.Row.{Row}
-use Rattle.run_picture.specs.Parts.{Parts, Blank, all, count_in}
+use Rattle.run_picture.specs.{[], ℕ, ◌&&◌, ◌++◌, ◌+◌, ◌<◌, ◌==◌, ◌∷◌, ◌≡◌, ◌≤◌, Blank, Bool, List, Parts.Parts, Row, Some, all, cond, count_in, length, nat_le, nat_lt, option_map_or, range_with_len}
+use Rattle.run_picture.specs.{slice_get, suc, zero}
+use Rattle.run_picture.proofs.Lemmas.{◌∙◌, ap, arith, range_push, refl, sum_by, sum_by-append, sym, take, take_all, take_at}
 
 count_join : {A : Type 0} (test : A → Bool) (f : ℕ → Parts A) (xs ys : List ℕ) → count_in test (all f (xs ++ ys)) ≡ count_in test (all f xs) + count_in test (all f ys)
 count_join test f [] ys = omega arith

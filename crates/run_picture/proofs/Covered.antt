@@ -1,34 +1,13 @@
 -- In a legal history a scope begins to close as its own close does, or as what its owner had open around it does.
-use Rattle.std.proofs.Common.{◌≡◌, ◌≢◌, ℕ, zero, suc, ◌+◌, ◌<◌, ◌≤◌, ◌==◌, ◌&&◌, ◌||◌, Bool, true, false, not, cond, nat_lt, is_some, Option, Some, None, length, slice_get, refl, ap, sym, subst, ◌∙◌, arith, inl, inr, ◌⊎◌}
-use Rattle.std.proofs.lemmas.Bool.{cases_lt, cases_eq, eq-eqb, eqb-true, lt-ltb, ltb-true, and_parts, or_cases, or_left, or_right, not-true, false_from_ne_true, both_ways}
-use Rattle.std.proofs.lemmas.List.{length-take}
-use Rattle.std.specs.Option.{option_and_then, option_map_or, option_or}
-use Rattle.scope_rules.specs.declared.types.capacity.Limits.{Limits}
-use Rattle.scope_rules.specs.declared.types.events.Event.{Event}
-use Rattle.scope_rules.specs.declared.types.events.Event.TheVariants.{BeginClose, Open}
-use Rattle.scope_rules.specs.declared.types.records.Opening.{Opening}
-use Rattle.scope_rules.specs.Checks.{in_closing}
-use Rattle.scope_rules.specs.History.{History, before, opened_count, opening}
-use Rattle.scope_rules.specs.Legal.{Accepts, Legal}
-use Rattle.scope_rules.specs.Scopes.{around, begins_closing, closed, closing, closing_at, covers, have_one_opener, innermost, parent, surrounding, forked_in}
-use Rattle.scope_rules.specs.Search.{earliest, some_below}
-use Rattle.scope_rules.specs.Table.{row_check}
-use Rattle.scope_rules.proofs.Accepted.{checks_at, not_refused}
-use Rattle.scope_rules.proofs.ClosingOwners.{closed_is_closing, live_is_unclosed}
-use Rattle.scope_rules.proofs.ClosingScopes.{inner_closed}
-use Rattle.scope_rules.proofs.Earlier.{before_of_before, get_take, opening_before, opening_event, opening_since, opening_within, scope_given, unclosed_before}
-use Rattle.scope_rules.proofs.Innermosts.{HasUnclosed, innermost_unclosed, unclosed_innermost}
-use Rattle.scope_rules.proofs.Growing.{opening_number}
-use Rattle.scope_rules.proofs.Nesting.{legal_before}
-use Rattle.scope_rules.proofs.Openings.{and_then_some, if_some}
-use Rattle.scope_rules.proofs.PassedRows.{begin_close_passed}
-use Rattle.scope_rules.proofs.Violations.{below_where, below_some}
-use Rattle.run_picture.specs.declared.landmarks.Landmark.TheVariants as landmark
-use Rattle.run_picture.specs.Arounds.{own_around}
-use Rattle.run_picture.specs.Closings.{begins_to_close, closing_place, closing_within, covered_at, sooner}
-use Rattle.run_picture.specs.Landmarks.{first_place, is_named, named_at}
-use Rattle.run_picture.proofs.Firsts.{IsFirst, first_found, first_once, sooner_first}
-use Rattle.run_picture.proofs.Searched.{opened_sooner}
+use Rattle.run_picture.specs.{ℕ, ◌&&◌, ◌+◌, ◌<◌, ◌==◌, ◌||◌, ◌≡◌, ◌≤◌, Accepts, BeginClose, Bool, Event, History, Landmark, Legal, Limits, None, Open, Opening, Option, Some, around, before}
+use Rattle.run_picture.specs.{begins_closing, begins_to_close, closed, closing, closing_at, closing_place, closing_within, cond, covered_at, covers, earliest, false, first_place, forked_in}
+use Rattle.run_picture.specs.{have_one_opener, in_closing, innermost, is_named, is_some, length, named_at, nat_lt, not, opened_count, opening, option_and_then, option_map_or, option_or, own_around}
+use Rattle.run_picture.specs.{parent, row_check, slice_get, some_below, sooner, suc, surrounding, true, zero}
+use Rattle.run_picture.proofs.Lemmas.{◌∙◌, ◌≢◌, ◌⊎◌, HasUnclosed, and_parts, and_then_some, ap, arith, before_of_before, begin_close_passed, below_some, below_where, both_ways, cases_eq, cases_lt}
+use Rattle.run_picture.proofs.Lemmas.{checks_at, closed_is_closing, eq-eqb, eqb-true, false_from_ne_true, get_take, if_some, inl, inner_closed, innermost_unclosed, inr, legal_before, length-take}
+use Rattle.run_picture.proofs.Lemmas.{live_is_unclosed, lt-ltb, ltb-true, not-true, not_refused, opening_before, opening_event, opening_number, opening_since, opening_within, or_cases, or_left}
+use Rattle.run_picture.proofs.Lemmas.{or_right, refl, scope_given, subst, sym, unclosed_before, unclosed_innermost}
+use Rattle.run_picture.proofs.{Firsts.IsFirst, Firsts.first_found, Firsts.first_once, Firsts.sooner_first, Searched.opened_sooner}
 
 -- ---- covering
 
@@ -286,52 +265,52 @@ first_closing h s =
     (λ i so. ap (λ b. cond b (Some i) None) so)
     (length h.events)
 
-named_begin : (s : ℕ) (e : Event) → is_named landmark.Began s e ≡ true → (a : ℕ) × (e ≡ BeginClose a s)
+named_begin : (s : ℕ) (e : Event) → is_named Landmark.Began s e ≡ true → (a : ℕ) × (e ≡ BeginClose a s)
 named_begin s (BeginClose a t) is = (a, ap (BeginClose a) (eqb-true t s is))
 named_begin s _ is = absurd cc
 
-first_begun : (h : History) (s : ℕ) → IsFirst (BeginsOwn h s) (length h.events) (first_place landmark.Began h.events s)
+first_begun : (h : History) (s : ℕ) → IsFirst (BeginsOwn h s) (length h.events) (first_place Landmark.Began h.events s)
 unfolding first_place
 first_begun h s =
-    first_found (BeginsOwn h s) (named_at landmark.Began h.events s) gives found (length h.events)
+    first_found (BeginsOwn h s) (named_at Landmark.Began h.events s) gives found (length h.events)
   where
-    gives : (i j : ℕ) → named_at landmark.Began h.events s i ≡ Some j → (j ≡ i) × BeginsOwn h s i
+    gives : (i j : ℕ) → named_at Landmark.Began h.events s i ≡ Some j → (j ≡ i) × BeginsOwn h s i
     gives i j is =
-        let entry = and_then_some (λ e. cond (is_named landmark.Began s e) (Some i) None) (slice_get h.events i) j is in
-        let test = if_some (is_named landmark.Began s entry.0) (Some i) j entry.2 in
+        let entry = and_then_some (λ e. cond (is_named Landmark.Began s e) (Some i) None) (slice_get h.events i) j is in
+        let test = if_some (is_named Landmark.Began s entry.0) (Some i) j entry.2 in
         let it = named_begin s entry.0 test.0 in
         (cc (test.1), (it.0, entry.1 ∙ ap Some it.1))
 
-    found : (i : ℕ) → BeginsOwn h s i → named_at landmark.Began h.events s i ≡ Some i
-    found i it = ap (option_and_then (λ e. cond (is_named landmark.Began s e) (Some i) None)) it.1 ∙ ap (λ b. cond b (Some i) None) (eq-eqb s s refl)
+    found : (i : ℕ) → BeginsOwn h s i → named_at Landmark.Began h.events s i ≡ Some i
+    found i it = ap (option_and_then (λ e. cond (is_named Landmark.Began s e) (Some i) None)) it.1 ∙ ap (λ b. cond b (Some i) None) (eq-eqb s s refl)
 
-closing_alone : (L : Limits) (h : History) (s : ℕ) → Legal L h → own_around h s ≡ None → closing_place h s ≡ first_place landmark.Began h.events s
+closing_alone : (L : Limits) (h : History) (s : ℕ) → Legal L h → own_around h s ≡ None → closing_place h s ≡ first_place Landmark.Began h.events s
 closing_alone L h s legal none =
-    first_once (IsClosingAt h s) (length h.events) (closing_place h s) (sooner (first_place landmark.Began h.events s) None) (first_closing h s)
+    first_once (IsClosingAt h s) (length h.events) (closing_place h s) (sooner (first_place Landmark.Began h.events s) None) (first_closing h s)
     (sooner_first (IsClosingAt h s) (BeginsOwn h s) (λ _. ⊥) (length h.events)
     (λ i so. elim (closing_split L h s i legal so) [ inl own ↦ inl own | inr outer ↦ absurd (cc (outer.is, none)) ])
     (own_closing h s)
     (λ i within outer. absurd outer)
-    (first_place landmark.Began h.events s) None (first_begun h s) (record { none = λ none i within so. so; there = λ i is. absurd cc }))
-    ∙ sooner_none (first_place landmark.Began h.events s)
+    (first_place Landmark.Began h.events s) None (first_begun h s) (record { none = λ none i within so. so; there = λ i is. absurd cc }))
+    ∙ sooner_none (first_place Landmark.Began h.events s)
   where
     sooner_none : (a : Option ℕ) → sooner a None ≡ a
     sooner_none None = refl
     sooner_none (Some x) = refl
 
-closing_around : (L : Limits) (h : History) (s p : ℕ) (o : Opening) → Legal L h → opening h s ≡ Some o → innermost (before h o.place) o.actor ≡ Some p → closing_place h s ≡ sooner (first_place landmark.Began h.events s) (closing_place h p)
+closing_around : (L : Limits) (h : History) (s p : ℕ) (o : Opening) → Legal L h → opening h s ≡ Some o → innermost (before h o.place) o.actor ≡ Some p → closing_place h s ≡ sooner (first_place Landmark.Began h.events s) (closing_place h p)
 closing_around L h s p o legal is inner =
     let own : own_around h s ≡ Some p = ap (option_and_then (λ (x : Opening). innermost (before h x.place) x.actor)) is ∙ inner in
-    first_once (IsClosingAt h s) (length h.events) (closing_place h s) (sooner (first_place landmark.Began h.events s) (closing_place h p)) (first_closing h s)
+    first_once (IsClosingAt h s) (length h.events) (closing_place h s) (sooner (first_place Landmark.Began h.events s) (closing_place h p)) (first_closing h s)
     (sooner_first (IsClosingAt h s) (BeginsOwn h s) (IsClosingAt h p) (length h.events)
     (λ i so. elim (closing_split L h s i legal so) [ inl alone ↦ inl alone | inr outer ↦ let same : outer.own ≡ p = let both = sym outer.is ∙ own in cc in inr (subst (λ q. closing_at h q i ≡ true) same outer.so) ])
     (own_closing h s)
     (λ i within so. let it = own_reaches L h s p i o legal is inner so in (it.place, it.by, it.so))
-    (first_place landmark.Began h.events s) (closing_place h p) (first_begun h s) (first_closing h p))
+    (first_place Landmark.Began h.events s) (closing_place h p) (first_begun h s) (first_closing h p))
 
 -- a scope begins to close where its own close begins, or before with what its owner had open around it
-pub closing_next : (L : Limits) (h : History) (s : ℕ) (o : Opening) (own : Option ℕ) → Legal L h → opening h s ≡ Some o → own_around h s ≡ own → closing_place h s ≡ sooner (first_place landmark.Began h.events s) (option_and_then (closing_place h) own)
-closing_next L h s o None legal is own = closing_alone L h s legal own ∙ alone (first_place landmark.Began h.events s)
+pub closing_next : (L : Limits) (h : History) (s : ℕ) (o : Opening) (own : Option ℕ) → Legal L h → opening h s ≡ Some o → own_around h s ≡ own → closing_place h s ≡ sooner (first_place Landmark.Began h.events s) (option_and_then (closing_place h) own)
+closing_next L h s o None legal is own = closing_alone L h s legal own ∙ alone (first_place Landmark.Began h.events s)
   where
     alone : (a : Option ℕ) → a ≡ sooner a None
     alone None = refl
@@ -370,19 +349,19 @@ unfolding closing_within
 within_enough h zero m s less more = absurd (omega (arith, less))
 within_enough h (suc n) zero s less more = absurd (omega (arith, more))
 within_enough h (suc n) (suc m) s less more =
-    ap (sooner (first_place landmark.Began h.events s)) (own_alike h n m s (own_around h s) refl (λ p small. within_enough h n m p (omega (arith, small, less)) (omega (arith, small, more))))
+    ap (sooner (first_place Landmark.Began h.events s)) (own_alike h n m s (own_around h s) refl (λ p small. within_enough h n m p (omega (arith, small, less)) (omega (arith, small, more))))
 
-pub begins_next : (h : History) (s : ℕ) (own : Option ℕ) → own_around h s ≡ own → begins_to_close h s ≡ sooner (first_place landmark.Began h.events s) (option_and_then (begins_to_close h) own)
+pub begins_next : (h : History) (s : ℕ) (own : Option ℕ) → own_around h s ≡ own → begins_to_close h s ≡ sooner (first_place Landmark.Began h.events s) (option_and_then (begins_to_close h) own)
 unfolding closing_within
-begins_next h s None is = ap (λ o. sooner (first_place landmark.Began h.events s) (option_and_then (closing_within h s) o)) is
+begins_next h s None is = ap (λ o. sooner (first_place Landmark.Began h.events s) (option_and_then (closing_within h s) o)) is
 begins_next h s (Some p) is =
-    ap (λ o. sooner (first_place landmark.Began h.events s) (option_and_then (closing_within h s) o)) is
-    ∙ ap (sooner (first_place landmark.Began h.events s)) (within_enough h s (suc p) p (own_there h s p is).0 (omega arith))
+    ap (λ o. sooner (first_place Landmark.Began h.events s) (option_and_then (closing_within h s) o)) is
+    ∙ ap (sooner (first_place Landmark.Began h.events s)) (within_enough h s (suc p) p (own_there h s p is).0 (omega arith))
 
 within_next : (L : Limits) (h : History) (n s : ℕ) (x : Option Opening) → Legal L h → opening h s ≡ x → is_some x ≡ true → ((p : ℕ) → p < s → is_some (opening h p) ≡ true → closing_within h n p ≡ closing_place h p) →
-    sooner (first_place landmark.Began h.events s) (option_and_then (closing_within h n) (own_around h s)) ≡ closing_place h s
+    sooner (first_place Landmark.Began h.events s) (option_and_then (closing_within h n) (own_around h s)) ≡ closing_place h s
 within_next L h n s None legal is some each = absurd cc
-within_next L h n s (Some o) legal is some each = ap (sooner (first_place landmark.Began h.events s)) (outer (own_around h s) refl) ∙ sym (closing_next L h s o (own_around h s) legal is refl)
+within_next L h n s (Some o) legal is some each = ap (sooner (first_place Landmark.Began h.events s)) (outer (own_around h s) refl) ∙ sym (closing_next L h s o (own_around h s) legal is refl)
   where
     outer : (q : Option ℕ) → own_around h s ≡ q → option_and_then (closing_within h n) q ≡ option_and_then (closing_place h) q
     outer None around = refl

@@ -1,8 +1,6 @@
 -- What is written, one number after the other; and which parts there are.
-use Rattle.std.proofs.Common.{◌≡◌, ℕ, ◌+◌, Bool, List, [], ◌∷◌, ◌++◌, refl, ap, sym, ◌∙◌, append_assoc, append-nil, arith}
-use Rattle.std.specs.List.{range_with_len}
-use Rattle.scope_rules.proofs.Numbers.{range_push}
-use Rattle.run_picture.specs.Parts.{Parts, Everywhere, all, count_in, written}
+use Rattle.run_picture.specs.{[], ℕ, ◌++◌, ◌+◌, ◌∷◌, ◌≡◌, Bool, Everywhere, List, Parts.Parts, all, count_in, range_with_len, written}
+use Rattle.run_picture.proofs.Lemmas.{◌∙◌, ap, append-nil, append_assoc, arith, range_push, refl, sym}
 
 written_join : {A : Type 0} (text : A → List ℕ) (f : ℕ → Parts A) (xs ys : List ℕ) → written text (all f (xs ++ ys)) ≡ written text (all f xs) ++ written text (all f ys)
 written_join text f [] ys = refl

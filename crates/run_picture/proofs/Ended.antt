@@ -1,72 +1,13 @@
 -- The marks of the ends of tasks.
-use Rattle.std.proofs.Common.{◌≡◌, ℕ, ◌+◌, ◌==◌, ◌||◌, ◌&&◌, unwrap_or, Bool, true, false, cond, is_some, Option, Some, None, List, [], ◌∷◌, length, count_by, sum_by, refl, ap, sym, ◌∙◌, arith}
-use Rattle.std.proofs.lemmas.Bool.{eq-eqb}
-use Rattle.std.proofs.lemmas.List.{take_all}
-use Rattle.std.specs.List.{list_any}
-use Rattle.std.specs.Option.{option_map_or}
-use Rattle.scope_rules.specs.declared.types.events.Event.{Event}
-use Rattle.scope_rules.specs.declared.types.events.Event.TheVariants as event
-use Rattle.scope_rules.specs.declared.types.records.Forking.{Forking}
-use Rattle.scope_rules.specs.Cancels.{cancelled_before}
-use Rattle.scope_rules.specs.History.{History, forking}
-use Rattle.scope_rules.specs.Tasks.{finished, finishes, is_settled, rejected, rejects, stage}
-use Rattle.scope_rules.specs.Tasks as tasks
-use Rattle.scope_rules.proofs.Stages.{stage_is, staged}
-use Rattle.run_picture.specs.declared.landmarks.Landmark.TheVariants as landmark
-use Rattle.run_picture.specs.declared.rows.Folded.{Folded}
-use Rattle.run_picture.specs.declared.rows.Row.{Row}
-use Rattle.run_picture.specs.Chart.{drawn_rows}
-use Rattle.run_picture.specs.Drawing.{all, count_in}
-use Rattle.run_picture.specs.Landmarks.{first_place, is_named}
-use Rattle.run_picture.specs.Lanes.{ended, row_drawn, task_lane}
-use Rattle.run_picture.specs.Laws.{lanes_of}
-use Rattle.run_picture.specs.Marked.{EachEndHasOneMark, end_place, is_end_of, is_number, no_number, no_subject}
-use Rattle.run_picture.specs.Nodes.{task_node}
-use Rattle.run_picture.specs.Picture.{indexes, row_at}
-use Rattle.run_picture.specs.Sheet.{Sheet}
-use Rattle.run_picture.specs.View.{shows}
-use Rattle.run_picture.specs.declared.view.View.{View}
-use Rattle.run_picture.proofs.Figured.{IsKind, TaskKind, band_none, cancels_none, end_shown, figure_kind, events_none, lane_counts, moments_none, shields_none}
+use Rattle.run_picture.specs.{ℕ, ◌&&◌, ◌+◌, ◌==◌, ◌||◌, ◌≡◌, Bool, EachEndHasOneMark, Folded, Forking, History, List, None, Option, Row, Sheet.Sheet, Some, Words.View, all, cancelled_before, cond}
+use Rattle.run_picture.specs.{count_by, count_in, drawn_rows, end_place, ended, false, finished, forking, indexes, is_end_of, is_number, is_settled, is_some, lanes_of, no_number, no_subject}
+use Rattle.run_picture.specs.{option_map_or, rejected, row_at, row_drawn, shows, stage, task_lane, task_node, true, unwrap_or}
+use Rattle.run_picture.proofs.Lemmas.{◌∙◌, ap, arith, ended_is, eq-eqb, refl, stage_is, staged, sum_by, sym}
+use Rattle.run_picture.proofs.Figured.{IsKind, TaskKind, band_none, cancels_none, end_shown, events_none, figure_kind, lane_counts, moments_none, shields_none}
 use Rattle.run_picture.proofs.Rowed.{rows_drawn, sum_zero, task_rows}
-use Rattle.run_picture.proofs.Searched.{any_alike, any_take}
+use Rattle.scope_rules.specs.Tasks as tasks
 
 -- ---- where a task ended
-
-either : (k : ℕ) (e : Event) → is_named landmark.Ended k e ≡ (rejects k e || finishes k e)
-either k (event.Reject task) = elim (task == k) as (λ b. b ≡ (b || false)) [ true ↦ refl | false ↦ refl ]
-either k (event.Finish task end) = refl
-either k _ = refl
-
-any_either : (p q : Event → Bool) (xs : List Event) → list_any (λ x. p x || q x) xs ≡ (list_any p xs || list_any q xs)
-any_either p q [] = refl
-any_either p q (x ∷ xs) = ap (λ b. (p x || q x) || b) (any_either p q xs) ∙ mix (p x) (q x) (list_any p xs) (list_any q xs)
-  where
-    mix : (a b c e : Bool) → ((a || b) || (c || e)) ≡ ((a || c) || (b || e))
-    mix true b c e = refl
-    mix false true true e = refl
-    mix false true false e = refl
-    mix false false c e = refl
-
--- a place is found if a task ended just if it was rejected or finished
-pub ended_is : (h : History) (k : ℕ) → is_some (ended h k) ≡ (rejected h k || finished h k)
-unfolding first_place rejected finished
-ended_is h k =
-    sym (any_take (is_named landmark.Ended k) h.events (length h.events) (omega arith))
-    ∙ ap (list_any (is_named landmark.Ended k)) (take_all (length h.events) h.events (omega arith))
-    ∙ any_alike (is_named landmark.Ended k) (λ e. rejects k e || finishes k e) h.events (either k)
-    ∙ any_either (rejects k) (finishes k) h.events
-
--- and that it started just if a start is found
-start_named : (k : ℕ) (e : Event) → is_named landmark.Started k e ≡ tasks.starts k e
-start_named k (event.Start task) = refl
-start_named k _ = refl
-
-pub started_is : (h : History) (k : ℕ) → is_some (first_place landmark.Started h.events k) ≡ tasks.started h k
-unfolding first_place tasks.started
-started_is h k =
-    sym (any_take (is_named landmark.Started k) h.events (length h.events) (omega arith))
-    ∙ ap (list_any (is_named landmark.Started k)) (take_all (length h.events) h.events (omega arith))
-    ∙ any_alike (is_named landmark.Started k) (tasks.starts k) h.events (start_named k)
 
 -- ---- the lane of a task
 

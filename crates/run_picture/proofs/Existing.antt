@@ -1,13 +1,7 @@
 -- Each number that was given has an opening or a forking; and lists of rows, one row more.
-use Rattle.std.proofs.Common.{◌≡◌, ℕ, zero, suc, ◌+◌, ◌<◌, ◌≤◌, Bool, true, false, cond, is_some, Option, Some, None, List, [], ◌∷◌, ◌++◌, length, take, slice_get, count_by, refl, ap, subst, ◌∙◌, arith, add-one, inl, inr}
-use Rattle.std.proofs.lemmas.Bool.{cases_lt, eq-eqb}
-use Rattle.std.proofs.lemmas.List.{take_all}
-use Rattle.std.specs.Option.{option_and_then, option_or}
-use Rattle.scope_rules.specs.declared.types.events.Event.{Event}
-use Rattle.scope_rules.specs.declared.types.events.Event.TheVariants.{Fork, Open}
-use Rattle.scope_rules.specs.History.{History, forked_count, forking, forking_of, is_fork, is_open, numbered_at, opened_count, opening, opening_of}
-use Rattle.scope_rules.specs.Search.{earliest}
-use Rattle.scope_rules.proofs.Prefixes.{count_by_at}
+use Rattle.run_picture.specs.{[], ℕ, ◌++◌, ◌+◌, ◌<◌, ◌∷◌, ◌≡◌, ◌≤◌, Bool, Event, Fork, History, List, None, Open, Option, Some, cond, count_by, earliest, false, forked_count, forking, forking_of}
+use Rattle.run_picture.specs.{is_fork, is_open, is_some, length, numbered_at, opened_count, opening, opening_of, option_and_then, option_or, slice_get, suc, true, zero}
+use Rattle.run_picture.proofs.Lemmas.{◌∙◌, add-one, ap, arith, cases_lt, count_by_at, eq-eqb, inl, inr, refl, subst, take, take_all}
 
 some_left : {A : Type 0} (a b : Option A) → is_some a ≡ true → is_some (option_or a b) ≡ true
 some_left None b some = absurd cc

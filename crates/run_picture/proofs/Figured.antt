@@ -1,68 +1,31 @@
 -- How many figures of a kind the parts of a picture have, by what the kind is.
-use Rattle.std.proofs.Common.{◌≡◌, ℕ, ◌+◌, ◌*◌, ◌<◌, ◌||◌, min, nat_lt, nat_le, Bool, true, false, cond, is_some, Option, Some, None, List, length, slice_get, sum_by, refl, ap, sym, ◌∙◌, arith}
-use Rattle.std.specs.List.{range_with_len}
-use Rattle.std.specs.Option.{option_and_then, option_map_or, option_or}
-use Rattle.scope_checks.specs.Queries.{cancellation}
-use Rattle.scope_rules.specs.declared.types.answers.Cause.{Cause}
-use Rattle.scope_rules.specs.declared.types.answers.State.{State}
-use Rattle.scope_rules.specs.declared.types.events.Event.{Event}
-use Rattle.scope_rules.specs.declared.types.events.Event.TheVariants as event
-use Rattle.scope_rules.specs.declared.types.records.Forking.{Forking}
-use Rattle.scope_rules.specs.declared.types.records.Opening.{Opening}
-use Rattle.scope_rules.specs.Cancels.{cancelled_before}
-use Rattle.scope_rules.specs.History.{History, forking, opening, scope_numbers, tick_of}
-use Rattle.run_picture.specs.declared.captions.Measure.{Measure}
-use Rattle.run_picture.specs.declared.captions.Fate.{Fate}
-use Rattle.run_picture.specs.declared.captions.Fate.TheVariants as fate
-use Rattle.run_picture.specs.declared.captions.ShownFork.{ShownFork}
-use Rattle.run_picture.specs.declared.captions.ShownScope.{ShownScope}
-use Rattle.run_picture.specs.declared.captions.Subject.{Subject}
-use Rattle.run_picture.specs.declared.captions.Subject.TheVariants as subject
-use Rattle.run_picture.specs.declared.marks.Mark.{Mark}
-use Rattle.run_picture.specs.declared.marks.Mark.TheVariants as mark
-use Rattle.run_picture.specs.declared.rows.Folded.{Folded}
-use Rattle.run_picture.specs.declared.spots.Spot.{Spot}
-use Rattle.run_picture.specs.declared.strokes.Bar.{Bar}
-use Rattle.run_picture.specs.declared.strokes.Reach.{Reach}
-use Rattle.run_picture.specs.declared.strokes.Shade.TheVariants as shade
-use Rattle.run_picture.specs.declared.strokes.Tick.{Tick}
-use Rattle.run_picture.specs.Cancels.{cancel_drawn, cancel_figures, is_accident, source_y}
-use Rattle.run_picture.specs.Drawing.{Drawing, Figure, ALabel, ABar, AMark, AReach, ATick, Blank, One, all, count_in, in_view}
-use Rattle.run_picture.specs.Events.{drawn, event_figures, marked, moment_line}
-use Rattle.run_picture.specs.Closings.{begins_to_close}
-use Rattle.run_picture.specs.Chart.{drawn_rows}
-use Rattle.run_picture.specs.declared.landmarks.Landmark.TheVariants as landmark
-use Rattle.run_picture.specs.declared.marks.ShownMark.{ShownMark}
-use Rattle.run_picture.specs.Drawing as drawing
-use Rattle.run_picture.specs.Landmarks.{first_place}
-use Rattle.scope_rules.specs.Tasks.{state}
-use Rattle.run_picture.specs.Lanes.{band_shade, bar_in, cancelled_bar, closing_bar, end_figure, end_mark, ended, folded_shade, fork_drawn, fork_of, forked_lane, lane_by, life_drawn, running_bar, running_fate, running_shade, scope_lane, scope_of, started, task_fate, task_lane}
-use Rattle.run_picture.specs.Marked.{figure_of}
-use Rattle.run_picture.specs.Picture.{figures, indexes, places, row_at}
-use Rattle.run_picture.specs.Sheet.{Sheet}
-use Rattle.run_picture.specs.Sites.{closed_place, mark_at, scope_row, x_in}
-use Rattle.run_picture.specs.Spots.{row_y}
-use Rattle.run_picture.specs.View.{shows}
-use Rattle.run_picture.specs.declared.view.View.{View}
-use Rattle.run_picture.specs.Shields.{held_mark, held_off, opened_shield, shield_figures}
+use Rattle.run_picture.specs.{ℕ, ◌*◌, ◌+◌, ◌≡◌, ABar, ALabel, AMark, AReach, ATick, Bar, Blank, Bool, Cause, Drawing.Drawing, Event, Fate, Figure, Folded, Forking, History, Mark, Measure, None, One}
+use Rattle.run_picture.specs.{Opening, Option, Reach, Shade, Sheet.Sheet, ShownFork, ShownMark, ShownScope, Some, Spot, State, Subject, Tick, Words.View, all, band_shade, bar_in, begins_to_close}
+use Rattle.run_picture.specs.{cancel_drawn, cancel_figures, cancellation, cancelled_bar, cancelled_before, closed_place, closing_bar, cond, count_in, drawn, drawn_rows, end_figure, end_mark, ended}
+use Rattle.run_picture.specs.{event_figures, false, figure_of, folded_shade, fork_drawn, fork_of, forked_lane, forking, held_mark, held_off, in_view, is_accident, lane_by, length, life_drawn, mark_at}
+use Rattle.run_picture.specs.{marked, min, moment_line, nat_le, opened_shield, opening, option_and_then, option_map_or, option_or, places, row_y, running_bar, running_fate, running_shade, scope_lane}
+use Rattle.run_picture.specs.{scope_numbers, scope_of, scope_row, shield_figures, shows, slice_get, source_y, state, task_fate, task_lane, tick_of, true, x_in}
+use Rattle.run_picture.proofs.Lemmas.{◌∙◌, ap, arith, refl}
 use Rattle.run_picture.proofs.Drawings.{none_in_all}
+use Rattle.run_picture.specs.Lanes.{started}
+use Rattle.run_picture.specs.Drawing as drawing
 
 -- a kind that no tick, bar or line of a cancel is of, nor the mark of a join, a close, a new deadline or a shield
 pub record IsKind (test : Figure → Bool) : Type 0 where
   pub ticks : (t : Tick) → test (ATick t) ≡ false
   pub bars : (b : Bar) → test (ABar b) ≡ false
   pub reaches : (r : Reach) → test (AReach r) ≡ false
-  pub joined : (p : Spot) (b : Measure) (n s : ℕ) → test (AMark (record { spot = p; measure = b; number = n; mark = mark.Joined s })) ≡ false
-  pub closing : (p : Spot) (b : Measure) (n s : ℕ) → test (AMark (record { spot = p; measure = b; number = n; mark = mark.Closing s })) ≡ false
-  pub closed : (p : Spot) (b : Measure) (n s : ℕ) → test (AMark (record { spot = p; measure = b; number = n; mark = mark.Closed s })) ≡ false
-  pub moved : (p : Spot) (b : Measure) (n s : ℕ) (o : Option ℕ) → test (AMark (record { spot = p; measure = b; number = n; mark = mark.Moved s o })) ≡ false
-  pub held : (p : Spot) (b : Measure) (n s q : ℕ) → test (AMark (record { spot = p; measure = b; number = n; mark = mark.Held s q })) ≡ false
+  pub joined : (p : Spot) (b : Measure) (n s : ℕ) → test (AMark (record { spot = p; measure = b; number = n; mark = Mark.Joined s })) ≡ false
+  pub closing : (p : Spot) (b : Measure) (n s : ℕ) → test (AMark (record { spot = p; measure = b; number = n; mark = Mark.Closing s })) ≡ false
+  pub closed : (p : Spot) (b : Measure) (n s : ℕ) → test (AMark (record { spot = p; measure = b; number = n; mark = Mark.Closed s })) ≡ false
+  pub moved : (p : Spot) (b : Measure) (n s : ℕ) (o : Option ℕ) → test (AMark (record { spot = p; measure = b; number = n; mark = Mark.Moved s o })) ≡ false
+  pub held : (p : Spot) (b : Measure) (n s q : ℕ) → test (AMark (record { spot = p; measure = b; number = n; mark = Mark.Held s q })) ≡ false
 
 -- of task x: whether its label is of the kind, and whether the mark of its end is
 pub record TaskKind (test : Figure → Bool) (x : ℕ) (label mark_is : Bool) : Type 0 where
-  pub labels : (at y : ℕ) (f : ShownFork) → f.task ≡ x → (e : Fate) → test (ALabel (record { x = at; y = y; subject = subject.Task f; fate = e })) ≡ label
-  pub nevers : (p : Spot) (b : Measure) (n : ℕ) → test (AMark (record { spot = p; measure = b; number = n; mark = mark.Never x })) ≡ mark_is
-  pub ends : (p : Spot) (b : Measure) (n : ℕ) (st : State) → test (AMark (record { spot = p; measure = b; number = n; mark = mark.Ended x st })) ≡ mark_is
+  pub labels : (at y : ℕ) (f : ShownFork) → f.task ≡ x → (e : Fate) → test (ALabel (record { x = at; y = y; subject = Subject.Task f; fate = e })) ≡ label
+  pub nevers : (p : Spot) (b : Measure) (n : ℕ) → test (AMark (record { spot = p; measure = b; number = n; mark = Mark.Never x })) ≡ mark_is
+  pub ends : (p : Spot) (b : Measure) (n : ℕ) (st : State) → test (AMark (record { spot = p; measure = b; number = n; mark = Mark.Ended x st })) ≡ mark_is
 
 pub figure_kind : (labels : Subject → Bool) (ends cancels : ℕ → Bool) → IsKind (figure_of labels ends cancels)
 figure_kind labels ends cancels = record {
@@ -124,10 +87,10 @@ pub moments_none : (test : Figure → Bool) → IsKind test → (h : History) (d
 moments_none test kind h d = none_in_all test (moment_line h d) (places h) (moment_none test kind h d)
 
 event_none : (test : Figure → Bool) → IsKind test → (h : History) (d : Sheet) (i : ℕ) (e : Event) → count_in test (drawn h d i e) ≡ 0
-event_none test kind h d i (event.Move scope deadline) = marked_none test h d i scope (mark.Moved scope deadline) (λ p b n. kind.moved p b n scope deadline)
-event_none test kind h d i (event.Join actor scope) = marked_none test h d i scope (mark.Joined scope) (λ p b n. kind.joined p b n scope)
-event_none test kind h d i (event.BeginClose actor scope) = marked_none test h d i scope (mark.Closing scope) (λ p b n. kind.closing p b n scope)
-event_none test kind h d i (event.EndClose actor scope) = marked_none test h d i scope (mark.Closed scope) (λ p b n. kind.closed p b n scope)
+event_none test kind h d i (Event.Move scope deadline) = marked_none test h d i scope (Mark.Moved scope deadline) (λ p b n. kind.moved p b n scope deadline)
+event_none test kind h d i (Event.Join actor scope) = marked_none test h d i scope (Mark.Joined scope) (λ p b n. kind.joined p b n scope)
+event_none test kind h d i (Event.BeginClose actor scope) = marked_none test h d i scope (Mark.Closing scope) (λ p b n. kind.closing p b n scope)
+event_none test kind h d i (Event.EndClose actor scope) = marked_none test h d i scope (Mark.Closed scope) (λ p b n. kind.closed p b n scope)
 event_none test kind h d i _ = refl
 
 pub events_none : (test : Figure → Bool) → IsKind test → (h : History) (d : Sheet) → count_in test (all (event_figures h d) (places h)) ≡ 0
@@ -138,7 +101,7 @@ shield_none : (test : Figure → Bool) → IsKind test → (h : History) (d : Sh
 shield_none test kind h d s o = by o.options.shield
   where
     held : (c : ℕ × Cause) → count_in test (held_mark h d s c.0 c.1.scope) ≡ 0
-    held c = marked_none test h d c.0 s (mark.Held s c.1.scope) (λ p b n. kind.held p b n s c.1.scope)
+    held c = marked_none test h d c.0 s (Mark.Held s c.1.scope) (λ p b n. kind.held p b n s c.1.scope)
 
     by : (b : Bool) → count_in test (cond b (option_map_or (λ c. in_view d.view c.0 (held_mark h d s c.0 c.1.scope)) (held_off h s o) Blank) Blank) ≡ 0
     by false = refl
@@ -149,14 +112,14 @@ unfolding shield_figures
 shields_none test kind h d = none_in_all test (shield_figures h d) (scope_numbers h) (λ s. none_or test (opened_shield h d s) (opening h s) (shield_none test kind h d s))
 
 -- a kind that no mark of a cancel is of has none among the cancels
-pub cancels_none : (test : Figure → Bool) → IsKind test → ((p : Spot) (b : Measure) (n s : ℕ) (c : Cause) (a : Bool) → test (AMark (record { spot = p; measure = b; number = n; mark = mark.Cancelled s c a })) ≡ false) → (h : History) (d : Sheet) → count_in test (all (cancel_figures h d) (scope_numbers h)) ≡ 0
+pub cancels_none : (test : Figure → Bool) → IsKind test → ((p : Spot) (b : Measure) (n s : ℕ) (c : Cause) (a : Bool) → test (AMark (record { spot = p; measure = b; number = n; mark = Mark.Cancelled s c a })) ≡ false) → (h : History) (d : Sheet) → count_in test (all (cancel_figures h d) (scope_numbers h)) ≡ 0
 unfolding cancel_figures
 cancels_none test kind marks h d = none_in_all test (cancel_figures h d) (scope_numbers h) (λ s. none_or test (λ row. option_map_or (λ c. in_view d.view c.0 (cancel_drawn h d s row c.0 c.1)) (cancellation h s) Blank) (scope_row h d s) (λ row. none_or test (λ (c : ℕ × Cause). in_view d.view c.0 (cancel_drawn h d s row c.0 c.1)) (cancellation h s) (λ c. none_in_view test d.view c.0 (cancel_drawn h d s row c.0 c.1) (two row s c))))
   where
     two : (row s : ℕ) (c : ℕ × Cause) → count_in test (cancel_drawn h d s row c.0 c.1) ≡ 0
     two row s c =
         let r : Reach = record { x = x_in h d c.0; source = source_y h d c.1.scope (row_y row); reached = row_y row } in
-        let m : ShownMark = mark_at h d c.0 (row_y row) (mark.Cancelled s c.1 (is_accident h c.0 c.1)) in
+        let m : ShownMark = mark_at h d c.0 (row_y row) (Mark.Cancelled s c.1 (is_accident h c.0 c.1)) in
         let line = zero_of (test (AReach r)) (kind.reaches r) in
         let marked = zero_of (test (AMark m)) (marks m.spot m.measure m.number s c.1 (is_accident h c.0 c.1)) in
         omega (arith, line, marked)
@@ -182,10 +145,10 @@ fork_counts : (test : Figure → Bool) (x : ℕ) (label mark_is : Bool) → IsKi
 unfolding fork_drawn
 fork_counts test x label mark_is kind task h d y f = by (cancelled_before h f.scope f.place)
   where
-    by : (c : Bool) → count_in test (cond c (in_view d.view f.place (drawing.mark (mark_at h d f.place y (mark.Never x)))) (life_drawn h d y x f)) ≡ cond mark_is (cond (cond c (shows d.view f.place) (option_map_or (shows d.view) (ended h x) false)) 1 0) 0
-    by true = let m : ShownMark = mark_at h d f.place y (mark.Never x) in counts_in_view test d.view f.place mark_is (drawing.mark m) (ap unit (task.nevers m.spot m.measure m.number))
+    by : (c : Bool) → count_in test (cond c (in_view d.view f.place (drawing.mark (mark_at h d f.place y (Mark.Never x)))) (life_drawn h d y x f)) ≡ cond mark_is (cond (cond c (shows d.view f.place) (option_map_or (shows d.view) (ended h x) false)) 1 0) 0
+    by true = let m : ShownMark = mark_at h d f.place y (Mark.Never x) in counts_in_view test d.view f.place mark_is (drawing.mark m) (ap unit (task.nevers m.spot m.measure m.number))
     by false =
-        let b : Bar = bar_in h d y (fork_of x f) f.place (option_or (started h x) (ended h x)) shade.Waiting fate.Waits in
+        let b : Bar = bar_in h d y (fork_of x f) f.place (option_or (started h x) (ended h x)) Shade.Waiting Fate.Waits in
         let r : ℕ → Bar = λ at. bar_in h d y (fork_of x f) at (ended h x) (running_shade (ended h x) (state h x)) (running_fate (ended h x) (state h x)) in
         let e : ℕ → ShownMark = λ at. mark_at h d at y (end_mark x (started h x) (state h x)) in
         let waits = zero_of (test (ABar b)) (kind.bars b) in
@@ -208,24 +171,24 @@ lane_counts test x label mark_is kind task h d row depth folded = by (forking h 
 
 -- ---- the band of a scope
 
-scope_by : (test : Figure → Bool) (s : ℕ) (label : Bool) → IsKind test → ((at y : ℕ) (x : ShownScope) → x.scope ≡ s → (e : Fate) → test (ALabel (record { x = at; y = y; subject = subject.Scope x; fate = e })) ≡ label) →
+scope_by : (test : Figure → Bool) (s : ℕ) (label : Bool) → IsKind test → ((at y : ℕ) (x : ShownScope) → x.scope ≡ s → (e : Fate) → test (ALabel (record { x = at; y = y; subject = Subject.Scope x; fate = e })) ≡ label) →
     (h : History) (d : Sheet) (row depth : ℕ) (folded : Option Folded) (o : Opening) → count_in test (lane_by h d row depth s folded o) ≡ cond label 1 0
 scope_by test s label kind labels h d row depth (Some f) o =
-    let named = ap unit (labels (8 + 10 * min depth 12) (min (row_y row + 4) 18446744073709551615) (record { scope = s; owner = o.actor; policy = o.policy; options = o.options }) refl (fate.Folded f)) in
-    let b : Bar = bar_in h d (row_y row) (scope_of s o) o.place (closed_place h s) (folded_shade f) (fate.Folded f) in
+    let named = ap unit (labels (8 + 10 * min depth 12) (min (row_y row + 4) 18446744073709551615) (record { scope = s; owner = o.actor; policy = o.policy; options = o.options }) refl (Fate.Folded f)) in
+    let b : Bar = bar_in h d (row_y row) (scope_of s o) o.place (closed_place h s) (folded_shade f) (Fate.Folded f) in
     let band = zero_of (test (ABar b)) (kind.bars b) in
     omega (arith, named, band)
 scope_by test s label kind labels h d row depth None o =
-    let named = ap unit (labels (8 + 10 * min depth 12) (min (row_y row + 4) 18446744073709551615) (record { scope = s; owner = o.actor; policy = o.policy; options = o.options }) refl fate.Open) in
-    let b : Bar = bar_in h d (row_y row) (scope_of s o) o.place (closed_place h s) (band_shade (closed_place h s)) fate.Open in
-    let c : ℕ × Cause → Bar = λ x. bar_in h d (row_y row) (scope_of s o) x.0 (closed_place h s) (cond (is_accident h x.0 x.1) shade.Cancelled shade.Settled) (fate.Cancelled x.1) in
-    let e : ℕ → Bar = λ at. bar_in h d (row_y row) (scope_of s o) at (closed_place h s) shade.Closing fate.Closing in
+    let named = ap unit (labels (8 + 10 * min depth 12) (min (row_y row + 4) 18446744073709551615) (record { scope = s; owner = o.actor; policy = o.policy; options = o.options }) refl Fate.Open) in
+    let b : Bar = bar_in h d (row_y row) (scope_of s o) o.place (closed_place h s) (band_shade (closed_place h s)) Fate.Open in
+    let c : ℕ × Cause → Bar = λ x. bar_in h d (row_y row) (scope_of s o) x.0 (closed_place h s) (cond (is_accident h x.0 x.1) Shade.Cancelled Shade.Settled) (Fate.Cancelled x.1) in
+    let e : ℕ → Bar = λ at. bar_in h d (row_y row) (scope_of s o) at (closed_place h s) Shade.Closing Fate.Closing in
     let band = zero_of (test (ABar b)) (kind.bars b) in
     let cancelled : count_in test (cancelled_bar h d (row_y row) s o) ≡ 0 = none_or test (λ x. drawing.bar (c x)) (cancellation h s) (λ x. zero_of (test (ABar (c x))) (kind.bars (c x))) in
     let closing : count_in test (closing_bar h d (row_y row) s o) ≡ 0 = none_or test (λ at. drawing.bar (e at)) (begins_to_close h s) (λ at. zero_of (test (ABar (e at))) (kind.bars (e at))) in
     omega (arith, named, band, cancelled, closing)
 
-pub band_counts : (test : Figure → Bool) (s : ℕ) (label : Bool) → IsKind test → ((at y : ℕ) (x : ShownScope) → x.scope ≡ s → (e : Fate) → test (ALabel (record { x = at; y = y; subject = subject.Scope x; fate = e })) ≡ label) →
+pub band_counts : (test : Figure → Bool) (s : ℕ) (label : Bool) → IsKind test → ((at y : ℕ) (x : ShownScope) → x.scope ≡ s → (e : Fate) → test (ALabel (record { x = at; y = y; subject = Subject.Scope x; fate = e })) ≡ label) →
     (h : History) (d : Sheet) (row depth : ℕ) (folded : Option Folded) → count_in test (scope_lane h d row depth s folded) ≡ option_map_or (λ (o : Opening). cond label 1 0) (opening h s) 0
 unfolding scope_lane
 band_counts test s label kind labels h d row depth folded = by (opening h s)
@@ -249,7 +212,7 @@ lane_none test k kind task h d row depth folded = lane_counts test k false false
     by None = refl
     by (Some f) = omega arith
 
-pub band_none : (test : Figure → Bool) (s : ℕ) → IsKind test → ((at y : ℕ) (x : ShownScope) → x.scope ≡ s → (e : Fate) → test (ALabel (record { x = at; y = y; subject = subject.Scope x; fate = e })) ≡ false) →
+pub band_none : (test : Figure → Bool) (s : ℕ) → IsKind test → ((at y : ℕ) (x : ShownScope) → x.scope ≡ s → (e : Fate) → test (ALabel (record { x = at; y = y; subject = Subject.Scope x; fate = e })) ≡ false) →
     (h : History) (d : Sheet) (row depth : ℕ) (folded : Option Folded) → count_in test (scope_lane h d row depth s folded) ≡ 0
 band_none test s kind labels h d row depth folded = band_counts test s false kind labels h d row depth folded ∙ by (opening h s)
   where

@@ -1,9 +1,6 @@
 -- The first place at which something is so.
-use Rattle.std.proofs.Common.{◌≡◌, ℕ, zero, suc, ◌<◌, ◌≤◌, min, Option, Some, None, refl, ap, sym, subst, arith, inl, inr, ◌⊎◌}
-use Rattle.std.proofs.lemmas.Bool.{cases_lt, cases_eq}
-use Rattle.std.specs.Option.{option_or}
-use Rattle.scope_rules.specs.Search.{earliest}
-use Rattle.run_picture.specs.Closings.{sooner}
+use Rattle.run_picture.specs.{ℕ, ◌<◌, ◌≡◌, ◌≤◌, None, Option, Some, earliest, min, option_or, sooner, suc, zero}
+use Rattle.run_picture.proofs.Lemmas.{◌⊎◌, ap, arith, cases_eq, cases_lt, inl, inr, refl, subst, sym}
 
 -- it is so at the place
 pub record IsThere (test : ℕ → Type 0) (n i : ℕ) : Type 0 where

@@ -1,17 +1,12 @@
 -- The rows, one node after the other.
-use Rattle.std.proofs.Common.{◌≡◌, ℕ, ◌+◌, List, [], ◌∷◌, ◌++◌, map, take, refl, ap, ◌∙◌, slice_get, Some}
-use Rattle.scope_rules.specs.History.{History}
-use Rattle.scope_rules.proofs.Prefixes.{take_at}
-use Rattle.run_picture.specs.declared.forest.Placed.{Placed}
-use Rattle.run_picture.specs.declared.rows.Class.{Class}
-use Rattle.run_picture.specs.declared.rows.Row.{Row}
-use Rattle.run_picture.specs.Rows.{class_of, folded_from, folded_in, or_begun, plain, taken_in}
+use Rattle.run_picture.specs.{[], ℕ, ◌++◌, ◌+◌, ◌∷◌, ◌≡◌, Bool, Class, History, List, Placed, Row, Some, class_of, folded_from, folded_in, length, map, nat_le, or_begun, plain, slice_get, taken_in}
+use Rattle.run_picture.proofs.Lemmas.{◌∙◌, ap, refl, take, take_at}
 
 -- the last row decides
-pub folded_last : (rows : List Row) (r : Row) (p : Placed) (c : Class) → folded_in (rows ++ r ∷ []) p c ≡ rows ++ or_begun r p c (taken_in r p c)
-folded_last [] r p c = refl
-folded_last (q ∷ []) r p c = refl
-folded_last (q ∷ x ∷ rows) r p c = ap (λ l. q ∷ l) (folded_last (x ∷ rows) r p c)
+pub folded_last : (full : Bool) (rows : List Row) (r : Row) (p : Placed) (c : Class) → folded_in full (rows ++ r ∷ []) p c ≡ rows ++ or_begun full r p c (taken_in r p c)
+folded_last full [] r p c = refl
+folded_last full (q ∷ []) r p c = refl
+folded_last full (q ∷ x ∷ rows) r p c = ap (λ l. q ∷ l) (folded_last full (x ∷ rows) r p c)
 
 pub map_push : (ps : List Placed) (p : Placed) → map plain (ps ++ p ∷ []) ≡ map plain ps ++ plain p ∷ []
 map_push [] p = refl
@@ -20,9 +15,13 @@ map_push (q ∷ ps) p = ap (λ l. plain q ∷ l) (map_push ps p)
 pub plain_more : (ps : List Placed) (i : ℕ) (p : Placed) → slice_get ps i ≡ Some p → map plain (take (i + 1) ps) ≡ map plain (take i ps) ++ plain p ∷ []
 plain_more ps i p is = ap (map plain) (take_at ps i p is) ∙ map_push (take i ps) p
 
-pub folded_push : (h : History) (rows : List Row) (ps : List Placed) (p : Placed) → folded_from h rows (ps ++ p ∷ []) ≡ folded_in (folded_from h rows ps) p (class_of h p.node)
-folded_push h rows [] p = refl
-folded_push h rows (q ∷ ps) p = folded_push h (folded_in rows q (class_of h q.node)) ps p
+-- the rows so far, with one node more
+abbrev pub with_one : History → ℕ → List Row → Placed → List Row
+with_one h many rows p = folded_in (nat_le many (length rows)) rows p (class_of h p.node)
 
-pub folded_more : (h : History) (ps : List Placed) (i : ℕ) (p : Placed) → slice_get ps i ≡ Some p → folded_from h [] (take (i + 1) ps) ≡ folded_in (folded_from h [] (take i ps)) p (class_of h p.node)
-folded_more h ps i p is = ap (folded_from h []) (take_at ps i p is) ∙ folded_push h [] (take i ps) p
+pub folded_push : (h : History) (many : ℕ) (rows : List Row) (ps : List Placed) (p : Placed) → folded_from h many rows (ps ++ p ∷ []) ≡ with_one h many (folded_from h many rows ps) p
+folded_push h many rows [] p = refl
+folded_push h many rows (q ∷ ps) p = folded_push h many (with_one h many rows q) ps p
+
+pub folded_more : (h : History) (many : ℕ) (ps : List Placed) (i : ℕ) (p : Placed) → slice_get ps i ≡ Some p → folded_from h many [] (take (i + 1) ps) ≡ with_one h many (folded_from h many [] (take i ps)) p
+folded_more h many ps i p is = ap (folded_from h many []) (take_at ps i p is) ∙ folded_push h many [] (take i ps) p

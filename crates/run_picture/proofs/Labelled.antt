@@ -1,23 +1,11 @@
 -- The labels of tasks and scopes.
-use Rattle.std.proofs.Common.{◌≡◌, ℕ, ◌+◌, ◌==◌, ◌||◌, Bool, true, false, cond, is_some, Option, Some, None, List, count_by, sum_by, refl, ap, sym, ◌∙◌, arith}
-use Rattle.std.proofs.lemmas.Bool.{eq-eqb}
-use Rattle.std.specs.Option.{option_map_or}
-use Rattle.scope_rules.specs.declared.types.records.Forking.{Forking}
-use Rattle.scope_rules.specs.declared.types.records.Opening.{Opening}
-use Rattle.scope_rules.specs.Cancels.{cancelled_before}
-use Rattle.scope_rules.specs.History.{History, forking, opening}
-use Rattle.run_picture.specs.declared.rows.Folded.{Folded}
-use Rattle.run_picture.specs.declared.rows.Row.{Row}
-use Rattle.run_picture.specs.Chart.{drawn_rows}
-use Rattle.run_picture.specs.Drawing.{all, count_in}
-use Rattle.run_picture.specs.Lanes.{ended, row_drawn, scope_lane, task_lane}
-use Rattle.run_picture.specs.Laws.{bands_of, lanes_of}
-use Rattle.run_picture.specs.Marked.{EachBandHasOneLabel, EachLaneHasOneLabel, is_band_of, is_label_of, is_scope_subject, is_task_subject, no_number}
-use Rattle.run_picture.specs.Nodes.{scope_node, task_node}
-use Rattle.run_picture.specs.Picture.{indexes, row_at}
-use Rattle.run_picture.specs.Sheet.{Sheet}
+use Rattle.run_picture.specs.{ℕ, ◌+◌, ◌==◌, ◌≡◌, Bool, EachBandHasOneLabel, EachLaneHasOneLabel, Folded, Forking, History, None, Opening, Option, Sheet.Sheet, Some, all, bands_of, cond, count_in}
+use Rattle.run_picture.specs.{false, forking, indexes, is_label_of, is_scope_subject, is_task_subject, lanes_of, no_number, opening, option_map_or, row_at, scope_lane, scope_node, task_lane}
+use Rattle.run_picture.specs.{task_node}
+use Rattle.run_picture.proofs.Lemmas.{◌∙◌, ap, arith, eq-eqb, refl}
 use Rattle.run_picture.proofs.Figured.{IsKind, TaskKind, band_counts, band_none, cancels_none, events_none, figure_kind, lane_counts, lane_none, moments_none, shields_none}
 use Rattle.run_picture.proofs.Rowed.{rows_drawn, scope_rows, task_rows}
+use Rattle.run_picture.specs.Marked.{is_band_of}
 
 -- ---- tasks
 

@@ -1,13 +1,11 @@
 mod Reaching
 mod Befores
-mod Lossless
 mod Showing
 mod Folding
 mod Seeing
 mod Noded
 mod Planted
 mod Searched
-mod Landed
 mod Drawings
 mod Counted
 mod Figured
@@ -22,8 +20,8 @@ mod Forested
 mod Rooted
 mod Stretches
 mod Recorded
-mod Stamped
 mod Existing
 mod Firsts
 mod Covered
 mod Written
+mod Lemmas

@@ -1,11 +1,8 @@
 -- The keys of the nodes, one node after the other.
-use Rattle.std.proofs.Common.{◌≡◌, ℕ, ◌+◌, ◌<◌, ◌≤◌, ◌^◌, zero, suc, subst, min, List, [], ◌∷◌, ◌++◌, map, length, get_or, refl, ap, sym, ◌∙◌, arith}
-use Rattle.std.proofs.lemmas.List.FromFn.{map-range_with_len_more, length-map-range_with_len, get_or-map-range_with_len}
-use Rattle.std.proofs.lemmas.List.{length-append, get_or_append_left, get_or-append-add}
-use Rattle.std.specs.List.{range_with_len}
-use Rattle.scope_rules.specs.History.{History, forked_count, opened_count}
-use Rattle.run_picture.specs.Forest.{AreKeys}
-use Rattle.run_picture.specs.Nodes.{node_count, keys, task_key, scope_key, task_keys, scope_keys}
+use Rattle.run_picture.specs.{[], ℕ, ◌++◌, ◌+◌, ◌<◌, ◌^◌, ◌∷◌, ◌≡◌, ◌≤◌, AreKeys, History, List, forked_count, get_or, keys, length, map, min, node_count, opened_count, range_with_len, scope_key}
+use Rattle.run_picture.specs.{scope_keys, suc, task_key, task_keys, zero}
+use Rattle.run_picture.proofs.Lemmas.{◌∙◌, ap, arith, get_or-append-add, get_or-map-range_with_len, get_or_append_left, length-append, length-map-range_with_len, map-range_with_len_more, refl, subst}
+use Rattle.run_picture.proofs.Lemmas.{sym}
 
 pub task_keys_none : (h : History) → task_keys h 0 ≡ []
 unfolding task_keys

@@ -1,7 +1,6 @@
 -- The rows of a forest, one node after the other.
-use Rattle.std.proofs.Common.{◌≡◌, ℕ, zero, suc, ◌+◌, ◌-◌, ◌<◌, Option, Some, None, List, [], ◌∷◌, ◌++◌, get_or, refl, ap, sym, ◌∙◌, arith, append_assoc, append-nil}
-use Rattle.run_picture.specs.declared.forest.Placed.{Placed}
-use Rattle.run_picture.specs.Forest.{rows_from}
+use Rattle.run_picture.specs.{[], ℕ, ◌++◌, ◌+◌, ◌-◌, ◌<◌, ◌∷◌, ◌≡◌, List, None, Option, Placed, Some, get_or, rows_from, suc, zero}
+use Rattle.run_picture.proofs.Lemmas.{◌∙◌, ap, append-nil, append_assoc, arith, refl, sym}
 
 pub rows_none : (child sibling : List (Option ℕ)) (steps depth : ℕ) → rows_from child sibling steps depth None ≡ []
 unfolding rows_from

@@ -1,14 +1,7 @@
 -- Where a scope became cancelled stands in the history.
-use Rattle.std.proofs.Common.{◌≡◌, ℕ, ◌<◌, max, Option, Some, None, option_map, length, refl, ap, arith}
-use Rattle.std.specs.Option.{option_and_then, option_map_or}
-use Rattle.scope_rules.specs.declared.types.answers.Cause.{Cause}
-use Rattle.scope_rules.specs.declared.types.records.Opening.{Opening}
-use Rattle.scope_rules.specs.declared.types.records.FirstCancel.{FirstCancel}
-use Rattle.scope_rules.specs.History.{History, opening}
-use Rattle.scope_rules.specs.Cancels.{cause, cancelled_at, first_cancel}
-use Rattle.scope_checks.specs.Queries.{cancellation}
-use Rattle.scope_rules.proofs.Earlier.{opening_within}
-use Rattle.scope_rules.proofs.Staying.{cancel_within_history}
+use Rattle.run_picture.specs.{ℕ, ◌<◌, ◌≡◌, Cause, FirstCancel, History, None, Opening, Option, Some, cancellation, cancelled_at, cause, first_cancel, length, max, opening, option_and_then, option_map}
+use Rattle.run_picture.specs.{option_map_or}
+use Rattle.run_picture.proofs.Lemmas.{ap, arith, cancel_within_history, opening_within, refl}
 
 pub cancelled_within : (h : History) (s i : ℕ) (c : Cause) → cancellation h s ≡ Some (i, c) → i < length h.events
 unfolding cause cancelled_at

@@ -1,42 +1,16 @@
 -- Each task, scope and cancel has its record, and each record tells the truth.
-use Rattle.std.proofs.Common.{◌≡◌, ◌≢◌, ◌⊎◌, inl, inr, ℕ, ◌+◌, ◌-◌, ◌<◌, ◌≤◌, ◌==◌, ◌||◌, ◌&&◌, nat_lt, nat_le, Bool, true, false, cond, is_some, unwrap_or, Option, Some, None, option_map, List, slice_get, length, refl, ap, sym, ◌∙◌, arith, subst}
-use Rattle.std.proofs.lemmas.Bool.{cases_eq, eq-eqb, eqb-true, ne_eqb, le-leb, lt-ltb}
-use Rattle.std.proofs.lemmas.List.{take_all}
-use Rattle.std.specs.List.{list_any, range_with_len}
-use Rattle.std.specs.Option.{option_and_then, option_map_or, option_or}
-use Rattle.scope_checks.specs.Queries.{cancellation}
-use Rattle.scope_rules.specs.declared.types.answers.Cause.{Cause}
-use Rattle.scope_rules.specs.declared.types.answers.State.{State}
-use Rattle.scope_rules.specs.declared.types.capacity.Limits.{Limits}
-use Rattle.scope_rules.specs.declared.types.events.Event.{Event}
-use Rattle.scope_rules.specs.declared.types.events.Event.TheVariants as event
-use Rattle.scope_rules.specs.declared.types.records.Forking.{Forking}
-use Rattle.scope_rules.specs.declared.types.records.Opening.{Opening}
-use Rattle.scope_rules.specs.Cancels.{cancelled_before, is_cancelled}
-use Rattle.scope_rules.specs.History.{History, forked_count, forking, opened_count, opening, scope_numbers, scopes, task_numbers, tasks}
-use Rattle.scope_rules.specs.Legal.{Legal}
-use Rattle.scope_rules.specs.Scopes.{closed, closing, ends}
-use Rattle.scope_rules.specs.Search.{earliest}
-use Rattle.scope_rules.specs.Tasks.{finished, finishes, rejected, rejects, started, starts, state}
-use Rattle.scope_rules.proofs.Forkings.{forked_after}
-use Rattle.scope_rules.proofs.Innermosts.{opened_after}
-use Rattle.scope_rules.proofs.Openings.{and_then_some, if_some}
-use Rattle.scope_rules.proofs.Searching.{earliest_where}
-use Rattle.run_picture.specs.declared.landmarks.Landmark.{Landmark}
-use Rattle.run_picture.specs.declared.landmarks.Landmark.TheVariants as landmark
-use Rattle.run_picture.specs.declared.slices.Stretch.{Stretch}
-use Rattle.run_picture.specs.Closings.{begins_to_close}
-use Rattle.run_picture.specs.Landmarks.{first_place, is_named, named_at}
-use Rattle.run_picture.specs.Parts.{Parts, Blank, Both, One, Everywhere, all, count_in}
-use Rattle.run_picture.specs.Trace.{Record, ATrack, AWait, ANever, ATask, AScope, AClosing, AnArrow, AnInstant, arrow_from, arrow_in, band_in, beginning, cancel_from, cancel_records, closing_from, closing_in, forked_records, instant_in, micros, never_in, reached_from, records, result_in, scope_records, slice_in, stretch_in, task_records, track_in, wait_by, wait_in}
-use Rattle.run_picture.specs.Traced.{CancelledFrom, EachCancelHasOneInstant, EachClosingHasOneInstant, EachRecordIsSo, EachScopeHasOneSlice, EachTaskBeginsOnce, EachTaskHasOneSlice, EndsBy, GoesFrom, IsArrowOf, IsBandOf, IsClosingOf, IsInstantOf, IsNeverOf, IsSliceOf, IsSo, IsTrackOf, IsWait, IsWaitOf, is_band_of, is_beginning_of, is_closing_of, is_instant_of, is_slice_of}
-use Rattle.run_picture.proofs.Cancelled.{cancelled_drawn}
-use Rattle.run_picture.proofs.Counted.{once_counted}
-use Rattle.run_picture.proofs.Covered.{begins_is, begins_there}
-use Rattle.run_picture.proofs.Drawings.{everywhere_all, none_in_all}
-use Rattle.run_picture.proofs.Ended.{ended_is, started_is}
-use Rattle.run_picture.proofs.Searched.{any_alike, any_take, closed_anywhere}
+use Rattle.run_picture.specs.{ℕ, ◌&&◌, ◌+◌, ◌-◌, ◌<◌, ◌==◌, ◌||◌, ◌≡◌, ◌≤◌, AClosing, ANever, AScope, ATask, ATrack, AWait, AnArrow, AnInstant, Blank, Bool, Both, Cause, EachCancelHasOneInstant}
+use Rattle.run_picture.specs.{EachClosingHasOneInstant, EachRecordIsSo, EachScopeHasOneSlice, EachTaskBeginsOnce, EachTaskHasOneSlice, EndsBy, Everywhere, Forking, GoesFrom, History, IsArrowOf}
+use Rattle.run_picture.specs.{IsBandOf, IsClosingOf, IsNeverOf, IsSliceOf, IsSo, IsWait, IsWaitOf, Landmark, Legal, Limits, List, None, One, Opening, Option, Parts.Parts, Record, Some, State, all}
+use Rattle.run_picture.specs.{arrow_from, arrow_in, band_in, beginning, begins_to_close, cancel_from, cancel_records, cancellation, cancelled_before, closing, closing_from, closing_in, cond, count_in}
+use Rattle.run_picture.specs.{false, finished, finishes, first_place, forked_count, forked_records, forking, instant_in, is_band_of, is_beginning_of, is_cancelled, is_closing_of, is_instant_of}
+use Rattle.run_picture.specs.{is_slice_of, is_some, length, micros, nat_le, nat_lt, never_in, opened_count, opening, option_map, option_map_or, option_or, range_with_len, reached_from, rejected}
+use Rattle.run_picture.specs.{rejects, result_in, scope_numbers, scope_records, slice_get, slice_in, started, starts, state, stretch_in, task_numbers, task_records, track_in, true, unwrap_or, wait_by}
+use Rattle.run_picture.specs.{wait_in}
+use Rattle.run_picture.proofs.Lemmas.{◌∙◌, ◌≢◌, ap, arith, cases_eq, closed_anywhere, closed_named, ended_is, ended_named, eq-eqb, forked_after, inl, inr, le-leb, lt-ltb, ne_eqb, opened_after, placed}
+use Rattle.run_picture.proofs.Lemmas.{refl, start_is, started_is, started_named, subst, sym}
 use Rattle.run_picture.proofs.Truthful.{cancel_there, everywhere_if, everywhere_or}
+use Rattle.run_picture.proofs.{Cancelled.cancelled_drawn, Counted.once_counted, Covered.begins_is, Covered.begins_there, Drawings.everywhere_all, Drawings.none_in_all}
 
 -- ---- how many there are
 
@@ -68,14 +42,14 @@ record TaskTest (test : Record → Bool) (h : History) (times : List ℕ) (x : �
   tracks : (f : Forking) → test (ATrack (track_in x f)) ≡ false
   nevers : (f : Forking) → test (ANever (never_in times x f)) ≡ begins
   waits : (f : Forking) → test (AWait (wait_in h times x f)) ≡ begins
-  slices : (f : Forking) (from : ℕ) → test (ATask (slice_in h times x f from (first_place landmark.Ended h.events x))) ≡ runs
+  slices : (f : Forking) (from : ℕ) → test (ATask (slice_in h times x f from (first_place Landmark.Ended h.events x))) ≡ runs
 
 -- 1, if it is so
 abbrev unit : Bool → ℕ
 unit b = cond b 1 0
 
 abbrev task_weight : History → ℕ → Bool → Bool → Option Forking → ℕ
-task_weight h x begins runs o = option_map_or (λ (f : Forking). unit begins + cond (is_some (first_place landmark.Started h.events x)) (unit runs) 0) o 0
+task_weight h x begins runs o = option_map_or (λ (f : Forking). unit begins + cond (is_some (first_place Landmark.Started h.events x)) (unit runs) 0) o 0
 
 task_counts : (test : Record → Bool) (h : History) (times : List ℕ) (x : ℕ) (begins runs : Bool) → TaskTest test h times x begins runs → count_in test (task_records h times x) ≡ task_weight h x begins runs (forking h x)
 unfolding task_records
@@ -85,7 +59,7 @@ task_counts test h times x begins runs it = by (forking h x)
     by_begin f true = ap unit (it.nevers f)
     by_begin f false = ap unit (it.waits f)
 
-    by_start : (f : Forking) (o : Option ℕ) → count_in test (option_map_or (λ from. One (ATask (slice_in h times x f from (first_place landmark.Ended h.events x)))) o Blank) ≡ cond (is_some o) (unit runs) 0
+    by_start : (f : Forking) (o : Option ℕ) → count_in test (option_map_or (λ from. One (ATask (slice_in h times x f from (first_place Landmark.Ended h.events x)))) o Blank) ≡ cond (is_some o) (unit runs) 0
     by_start f None = refl
     by_start f (Some from) = ap unit (it.slices f from)
 
@@ -94,7 +68,7 @@ task_counts test h times x begins runs it = by (forking h x)
     by (Some f) =
         let track : unit (test (ATrack (track_in x f))) ≡ 0 = ap unit (it.tracks f) in
         let begin = by_begin f (cancelled_before h f.scope f.place) in
-        let run = by_start f (first_place landmark.Started h.events x) in
+        let run = by_start f (first_place Landmark.Started h.events x) in
         omega (arith, track, begin, run)
 
 abbrev none_by : Bool → ℕ
@@ -113,7 +87,7 @@ no_task test h times x it = task_counts test h times x false false it ∙ by (fo
   where
     by : (o : Option Forking) → task_weight h x false false o ≡ 0
     by None = refl
-    by (Some f) = let none = zero_by (is_some (first_place landmark.Started h.events x)) in omega (arith, none)
+    by (Some f) = let none = zero_by (is_some (first_place Landmark.Started h.events x)) in omega (arith, none)
 
 slice_test : (h : History) (times : List ℕ) (k x : ℕ) → TaskTest (is_slice_of k) h times x false (x == k)
 slice_test h times k x = record { tracks = λ f. refl; nevers = λ f. refl; waits = λ f. refl; slices = λ f from. refl }
@@ -125,7 +99,7 @@ slice_here : (h : History) (times : List ℕ) (k : ℕ) (f : Forking) → forkin
 slice_here h times k f is =
     task_counts (is_slice_of k) h times k false (k == k) (slice_test h times k k)
     ∙ (ap (task_weight h k false (k == k)) is
-    ∙ (ap (λ b. 0 + cond (is_some (first_place landmark.Started h.events k)) (unit b) 0) (eq-eqb k k refl)
+    ∙ (ap (λ b. 0 + cond (is_some (first_place Landmark.Started h.events k)) (unit b) 0) (eq-eqb k k refl)
     ∙ ap (λ b. 0 + cond b 1 0) (started_is h k)
     ∙ plain (cond (started h k) 1 0)))
   where
@@ -136,8 +110,8 @@ beginning_here : (h : History) (times : List ℕ) (k : ℕ) (f : Forking) → fo
 beginning_here h times k f is =
     task_counts (is_beginning_of k) h times k (k == k) false (beginning_test h times k k)
     ∙ (ap (task_weight h k (k == k) false) is
-    ∙ (ap (λ b. unit b + none_by (is_some (first_place landmark.Started h.events k))) (eq-eqb k k refl)
-    ∙ one_by (is_some (first_place landmark.Started h.events k))))
+    ∙ (ap (λ b. unit b + none_by (is_some (first_place Landmark.Started h.events k))) (eq-eqb k k refl)
+    ∙ one_by (is_some (first_place Landmark.Started h.events k))))
 
 slice_elsewhere : (h : History) (times : List ℕ) (k x : ℕ) → x ≢ k → count_in (is_slice_of k) (task_records h times x) ≡ 0
 slice_elsewhere h times k x differ = no_task (is_slice_of k) h times x (record { tracks = λ f. refl; nevers = λ f. refl; waits = λ f. refl; slices = λ f from. ne_eqb x k differ })
@@ -210,7 +184,7 @@ each_beginning h times k f is =
 -- ---- scopes
 
 no_task_test : (test : Record → Bool) (h : History) (times : List ℕ) (x : ℕ) → ((f : Forking) → test (ATrack (track_in x f)) ≡ false) → ((f : Forking) → test (ANever (never_in times x f)) ≡ false) → ((f : Forking) → test (AWait (wait_in h times x f)) ≡ false) →
-    ((f : Forking) (from : ℕ) → test (ATask (slice_in h times x f from (first_place landmark.Ended h.events x))) ≡ false) → TaskTest test h times x false false
+    ((f : Forking) (from : ℕ) → test (ATask (slice_in h times x f from (first_place Landmark.Ended h.events x))) ≡ false) → TaskTest test h times x false false
 no_task_test test h times x tracks nevers waits slices = record { tracks = tracks; nevers = nevers; waits = waits; slices = slices }
 
 band_here : (h : History) (times : List ℕ) (s : ℕ) (o : Opening) → opening h s ≡ Some o → count_in (is_band_of s) (scope_records h times s) ≡ 1
@@ -291,32 +265,6 @@ each_cancel h times s o is =
 
 -- ---- what they say
 
-pub placed : (m : Landmark) (es : List Event) (n i : ℕ) → first_place m es n ≡ Some i → (e : Event) × (slice_get es i ≡ Some e) × (is_named m n e ≡ true)
-unfolding first_place
-placed m es n i is =
-    let at = earliest_where (named_at m es n) i (length es) is in
-    let it = and_then_some (λ (e : Event). cond (is_named m n e) (Some at.0) None) (slice_get es at.0) i at.2 in
-    let so = if_some (is_named m n it.0) (Some at.0) i it.2 in
-    let same : at.0 ≡ i = let x = so.1 in cc in
-    (it.0, ap (slice_get es) (sym same) ∙ it.1, so.0)
-
-pub start_is : (k : ℕ) (e : Event) → is_named landmark.Started k e ≡ true → e ≡ event.Start k
-start_is k (event.Start task) so = ap event.Start (eqb-true task k so)
-start_is k _ so = absurd cc
-
-ended_named : (k : ℕ) (e : Event) → is_named landmark.Ended k e ≡ true → (rejects k e || finishes k e) ≡ true
-ended_named k (event.Reject task) so = ap (λ b. b || false) so
-ended_named k (event.Finish task end) so = so
-ended_named k _ so = absurd cc
-
-closed_named : (s : ℕ) (e : Event) → is_named landmark.Closed s e ≡ true → ends s e ≡ true
-closed_named s (event.EndClose actor scope) so = so
-closed_named s _ so = absurd cc
-
-started_named : (k : ℕ) (e : Event) → is_named landmark.Started k e ≡ true → starts k e ≡ true
-started_named k (event.Start task) so = so
-started_named k _ so = absurd cc
-
 goes : (h : History) (times : List ℕ) (track from : ℕ) (to : Option ℕ) → GoesFrom h times (stretch_in h times track from to) track from to
 goes h times track from to = record {
   on = refl;
@@ -329,10 +277,10 @@ none_some : {A : Type 0} (o : Option A) → o ≡ None → is_some o ≡ false
 none_some o is = ap is_some is
 
 module _ (h : History) (times : List ℕ) where
-  task_so : (k : ℕ) (f : Forking) (from : ℕ) → forking h k ≡ Some f → first_place landmark.Started h.events k ≡ Some from → IsSliceOf h times (slice_in h times k f from (first_place landmark.Ended h.events k)) k
+  task_so : (k : ℕ) (f : Forking) (from : ℕ) → forking h k ≡ Some f → first_place Landmark.Started h.events k ≡ Some from → IsSliceOf h times (slice_in h times k f from (first_place Landmark.Ended h.events k)) k
   task_so k f from is began =
-      let start = placed landmark.Started h.events k from began in
-      let to = first_place landmark.Ended h.events k in
+      let start = placed Landmark.Started h.events k from began in
+      let to = first_place Landmark.Ended h.events k in
       record {
         forked = f;
         is = is;
@@ -340,13 +288,13 @@ module _ (h : History) (times : List ℕ) where
         scope = refl;
         from = from;
         begins = start.1 ∙ ap Some (start_is k start.0 start.2);
-        to = first_place landmark.Ended h.events k;
-        goes = goes h times k from (first_place landmark.Ended h.events k);
+        to = first_place Landmark.Ended h.events k;
+        goes = goes h times k from (first_place Landmark.Ended h.events k);
         ends = record {
-          here = λ i at. let it = placed landmark.Ended h.events k i at in (it.0, it.1, ended_named k it.0 it.2);
-          never = λ none. sym (ended_is h k) ∙ none_some (first_place landmark.Ended h.events k) none;
+          here = λ i at. let it = placed Landmark.Ended h.events k i at in (it.0, it.1, ended_named k it.0 it.2);
+          never = λ none. sym (ended_is h k) ∙ none_some (first_place Landmark.Ended h.events k) none;
         };
-        result = λ st so. result_so (first_place landmark.Ended h.events k) st so;
+        result = λ st so. result_so (first_place Landmark.Ended h.events k) st so;
         open_result = λ none. ap (option_map (λ place. state h k)) none;
       }
     where
@@ -358,10 +306,10 @@ module _ (h : History) (times : List ℕ) where
   never_so k f is under = record { forked = f; is = is; at = refl; scope = refl; cancelled = under }
 
   -- where the wait of a task ends, and how
-  wait_ends : (k : ℕ) (start end : Option ℕ) → first_place landmark.Started h.events k ≡ start → first_place landmark.Ended h.events k ≡ end →
+  wait_ends : (k : ℕ) (start end : Option ℕ) → first_place Landmark.Started h.events k ≡ start → first_place Landmark.Ended h.events k ≡ end →
       EndsBy h (λ e. starts k e || (rejects k e || finishes k e)) (started h k || (rejected h k || finished h k)) (option_or start end) × IsWait h k (wait_by start end)
   wait_ends k (Some i) end begun over =
-      let it = placed landmark.Started h.events k i begun in
+      let it = placed Landmark.Started h.events k i begun in
       let ran : started h k ≡ true = sym (started_is h k) ∙ ap is_some begun in (
         record {
           here = λ j at. let same : i ≡ j = cc in (it.0, subst (λ n. slice_get h.events n ≡ Some it.0) same it.1, ap (λ b. b || (rejects k it.0 || finishes k it.0)) (started_named k it.0 it.2));
@@ -370,7 +318,7 @@ module _ (h : History) (times : List ℕ) where
         ran,
       )
   wait_ends k None (Some i) begun over =
-      let it = placed landmark.Ended h.events k i over in
+      let it = placed Landmark.Ended h.events k i over in
       let unrun : started h k ≡ false = sym (started_is h k) ∙ ap is_some begun in
       let ran : (rejected h k || finished h k) ≡ true = sym (ended_is h k) ∙ ap is_some over in (
         record {
@@ -390,14 +338,14 @@ module _ (h : History) (times : List ℕ) where
 
   wait_so : (k : ℕ) (f : Forking) → forking h k ≡ Some f → cancelled_before h f.scope f.place ≡ false → IsWaitOf h times (wait_in h times k f) k
   wait_so k f is free =
-      let it = wait_ends k (first_place landmark.Started h.events k) (first_place landmark.Ended h.events k) refl refl in
+      let it = wait_ends k (first_place Landmark.Started h.events k) (first_place Landmark.Ended h.events k) refl refl in
       record {
         forked = f;
         is = is;
         scope = refl;
         free = free;
-        to = option_or (first_place landmark.Started h.events k) (first_place landmark.Ended h.events k);
-        goes = goes h times k f.place (option_or (first_place landmark.Started h.events k) (first_place landmark.Ended h.events k));
+        to = option_or (first_place Landmark.Started h.events k) (first_place Landmark.Ended h.events k);
+        goes = goes h times k f.place (option_or (first_place Landmark.Started h.events k) (first_place Landmark.Ended h.events k));
         ends = it.0;
         wait = it.1;
       }
@@ -411,18 +359,18 @@ module _ (h : History) (times : List ℕ) where
       everywhere_or (IsSo h times) (forked_records h times k) (forking h k)
       (λ f is. (
         record { forked = f; is = is; name = refl },
-        (beginning_so k f is, everywhere_or (IsSo h times) (λ from. One (ATask (slice_in h times k f from (first_place landmark.Ended h.events k)))) (first_place landmark.Started h.events k) (λ from began. task_so k f from is began)),
+        (beginning_so k f is, everywhere_or (IsSo h times) (λ from. One (ATask (slice_in h times k f from (first_place Landmark.Ended h.events k)))) (first_place Landmark.Started h.events k) (λ from began. task_so k f from is began)),
       ))
 
   scope_so : (s : ℕ) (o : Opening) → opening h s ≡ Some o → IsBandOf h times (band_in h times s o) s
   scope_so s o is = record {
     opened = o;
     is = is;
-    to = first_place landmark.Closed h.events s;
-    goes = goes h times o.actor o.place (first_place landmark.Closed h.events s);
+    to = first_place Landmark.Closed h.events s;
+    goes = goes h times o.actor o.place (first_place Landmark.Closed h.events s);
     ends = record {
-      here = λ i at. let it = placed landmark.Closed h.events s i at in (it.0, it.1, closed_named s it.0 it.2);
-      never = λ none. sym (closed_anywhere h s) ∙ none_some (first_place landmark.Closed h.events s) none;
+      here = λ i at. let it = placed Landmark.Closed h.events s i at in (it.0, it.1, closed_named s it.0 it.2);
+      never = λ none. sym (closed_anywhere h s) ∙ none_some (first_place Landmark.Closed h.events s) none;
     };
     told = closed_anywhere h s;
   }

@@ -1,45 +1,17 @@
 -- Each node of a legal history is placed exactly once: what lies above another stands earlier in the history.
-use Rattle.std.proofs.Common.{◌≡◌, ◌⊎◌, inl, inr, ℕ, ◌+◌, ◌-◌, ◌<◌, ◌≤◌, ◌==◌, ◌&&◌, nat_lt, nat_le, min, Bool, true, false, cond, Option, Some, None, List, [], ◌∷◌, length, map, get_or, count_by, refl, ap, sym, ◌∙◌, arith, subst}
-use Rattle.std.proofs.lemmas.Bool.{cases_lt, lt-ltb, le-ltb}
-use Rattle.std.proofs.lemmas.List.{length-take}
-use Rattle.std.proofs.lemmas.List.FromFn.{get_or-map-range_with_len}
-use Rattle.std.proofs.lemmas.List.Sums.{count_by-le-length, length-filter, sum_by-cons}
-use Rattle.std.specs.Option.{option_and_then, option_map_or}
-use Rattle.scope_rules.specs.declared.types.capacity.Limits.{Limits}
-use Rattle.scope_rules.specs.declared.types.records.Forking.{Forking}
-use Rattle.scope_rules.specs.declared.types.records.Opening.{Opening}
-use Rattle.scope_rules.specs.History.{History, before, forked_count, forking, opened_count, opening, scopes, tasks}
-use Rattle.scope_rules.specs.Legal.{Legal}
-use Rattle.scope_rules.specs.Scopes.{innermost}
-use Rattle.scope_rules.proofs.Earlier.{forking_since, forking_within, opening_since, opening_within}
-use Rattle.scope_rules.proofs.Forkings.{forking_row, opening_row}
-use Rattle.scope_rules.proofs.Innermosts.{innermost_unclosed}
-use Rattle.scope_rules.proofs.PassedRows.{IsActor}
-use Rattle.scope_rules.proofs.Stages.{running_forked}
-use Rattle.run_picture.specs.declared.forest.Placed.{Placed}
-use Rattle.run_picture.specs.declared.rows.Node.{Node}
-use Rattle.run_picture.specs.declared.rows.Node.TheVariants as node
-use Rattle.run_picture.specs.declared.rows.Row.{Row}
-use Rattle.run_picture.specs.Arounds.{own_around}
-use Rattle.run_picture.specs.Chart.{children, drawn_rows, placed_rows, siblings}
-use Rattle.run_picture.specs.Forest.{first_from, rows_from}
-use Rattle.run_picture.specs.Laws.{EachIsPlacedOnce, EachScopeHasOneBand, EachTaskHasOneLane, bands_of, lanes_of, times_placed}
-use Rattle.run_picture.specs.Nodes.{keys, node_count, scope_key, scope_node, task_key, task_node}
-use Rattle.run_picture.specs.Rows.{folded_from, node_of, plain, rows_of}
-use Rattle.run_picture.specs.Seen.{is_seen, scope_seen, seen_by, seen_rows, task_end, task_seen}
-use Rattle.run_picture.specs.Sheet.{Sheet}
-use Rattle.run_picture.specs.Sites.{closed_place}
-use Rattle.run_picture.specs.View.{meets}
-use Rattle.run_picture.specs.declared.view.View.{View}
-use Rattle.run_picture.proofs.Forested.{IsRanked, once}
+use Rattle.run_picture.specs.{[], ℕ, ◌&&◌, ◌+◌, ◌-◌, ◌<◌, ◌==◌, ◌∷◌, ◌≡◌, ◌≤◌, EachIsPlacedOnce, EachScopeHasOneBand, EachTaskHasOneLane, Forking, History, Legal, Limits, List, Node, None, Opening}
+use Rattle.run_picture.specs.{Option, Placed, Row, Sheet.Sheet, Some, Words.View, before, children, closed_place, cond, count_by, drawn_rows, false, first_from, folded_from, forked_count, forking}
+use Rattle.run_picture.specs.{get_or, innermost, is_seen, keys, length, map, max, meets, min, nat_le, nat_lt, node_count, node_of, opened_count, opening, option_and_then, option_map_or, own_around}
+use Rattle.run_picture.specs.{placed_rows, plain, rows_from, rows_of, scope_key, scope_node, scope_seen, seen_by, seen_rows, siblings, task_end, task_key, task_node, task_seen, tasks, times_placed}
+use Rattle.run_picture.proofs.Lemmas.{◌∙◌, ap, arith, cases_lt, count_by-le-length, forking_row, forking_since, forking_within, get_or-map-range_with_len, inl, innermost_unclosed, inr, le-ltb}
+use Rattle.run_picture.proofs.Lemmas.{length-filter, length-take, lt-ltb, opening_row, opening_since, opening_within, refl, running_forked, subst, sum_by-cons, sym}
 use Rattle.run_picture.proofs.Noded.{keys_long, keys_small, scope_key_at, task_key_at}
-use Rattle.run_picture.proofs.Rowed.{scope_at, scope_node_is, task_at, task_node_is}
-use Rattle.run_picture.proofs.Seeing.{times_seen}
+use Rattle.run_picture.proofs.{Forested.IsRanked, Forested.once, Rowed.scope_at, Rowed.scope_node_is, Rowed.task_at, Rowed.task_node_is, Seeing.times_seen}
 
 -- where a node stands in the history
 abbrev place_of : History → Option Node → ℕ
-place_of h (Some (node.Task k)) = option_map_or (λ (f : Forking). f.place) (forking h k) 0
-place_of h (Some (node.Scope s)) = option_map_or (λ (o : Opening). o.place) (opening h s) 0
+place_of h (Some (Node.Task k)) = option_map_or (λ (f : Forking). f.place) (forking h k) 0
+place_of h (Some (Node.Scope s)) = option_map_or (λ (o : Opening). o.place) (opening h s) 0
 place_of h None = 0
 
 abbrev rank : History → ℕ → ℕ
@@ -48,19 +20,19 @@ rank h n = place_of h (node_of h n)
 task_rank : (h : History) (k : ℕ) (f : Forking) → forking h k ≡ Some f → rank h (task_node h k) ≡ f.place
 task_rank h k f is =
     let it = task_node_is h k f is in
-    ap (rank h) it.3 ∙ (ap (place_of h) (task_at h it.0 it.1 ∙ ap (λ x. Some (node.Task x)) it.2) ∙ ap (λ (o : Option Forking). option_map_or (λ x. x.place) o 0) is)
+    ap (rank h) it.3 ∙ (ap (place_of h) (task_at h it.0 it.1 ∙ ap (λ x. Some (Node.Task x)) it.2) ∙ ap (λ (o : Option Forking). option_map_or (λ x. x.place) o 0) is)
 
-scope_named : (h : History) (n : ℕ) → n < opened_count h → node_of h (forked_count h + n) ≡ Some (node.Scope (h.base.scopes + 1 + n))
+scope_named : (h : History) (n : ℕ) → n < opened_count h → node_of h (forked_count h + n) ≡ Some (Node.Scope (h.base.scopes + 1 + n))
 scope_named h n small =
     let back : forked_count h + n - forked_count h ≡ n = omega arith in
     scope_at h (forked_count h + n) (omega arith)
-    ∙ (ap (λ m. cond (nat_lt m (opened_count h)) (Some (node.Scope (h.base.scopes + 1 + m))) None) back
-    ∙ ap (λ b. cond b (Some (node.Scope (h.base.scopes + 1 + n))) None) (lt-ltb n (opened_count h) small))
+    ∙ (ap (λ m. cond (nat_lt m (opened_count h)) (Some (Node.Scope (h.base.scopes + 1 + m))) None) back
+    ∙ ap (λ b. cond b (Some (Node.Scope (h.base.scopes + 1 + n))) None) (lt-ltb n (opened_count h) small))
 
 scope_rank : (h : History) (s : ℕ) (o : Opening) → opening h s ≡ Some o → rank h (scope_node h s) ≡ o.place
 scope_rank h s o is =
     let it = scope_node_is h s o is in
-    ap (rank h) it.3 ∙ (ap (place_of h) (scope_named h it.0 it.1 ∙ ap (λ x. Some (node.Scope x)) it.2) ∙ ap (λ (x : Option Opening). option_map_or (λ y. y.place) x 0) is)
+    ap (rank h) it.3 ∙ (ap (place_of h) (scope_named h it.0 it.1 ∙ ap (λ x. Some (Node.Scope x)) it.2) ∙ ap (λ (x : Option Opening). option_map_or (λ y. y.place) x 0) is)
 
 within_place : (h : History) (i p : ℕ) (o : Opening) → opening (before h i) p ≡ Some o → o.place < i
 within_place h i p o is = omega (arith, opening_within (before h i) p o is, length-take i h.events)
@@ -187,7 +159,7 @@ drawn_times h d n whole few =
     let seen = seen_rows h d.view (placed_rows h None) in
     let fewer : length seen ≤ d.view.rows = omega (arith, few, length-filter (λ (p : Placed). is_seen h d.view p.node) (placed_rows h None), count_by-le-length (λ (p : Placed). is_seen h d.view p.node) (placed_rows h None)) in
     ap (λ o. count_by (λ (r : Row). r.node == n) (rows_of h d.view.rows (seen_rows h d.view (placed_rows h o)))) whole
-    ∙ (ap (λ b. count_by (λ (r : Row). r.node == n) (cond b (folded_from h [] seen) (map plain seen))) (le-ltb d.view.rows (length seen) fewer)
+    ∙ (ap (λ b. count_by (λ (r : Row). r.node == n) (cond b (folded_from h (max d.view.rows 1000) [] seen) (map plain seen))) (le-ltb d.view.rows (length seen) fewer)
     ∙ (plain_times seen n ∙ times_seen h d.view (placed_rows h None) n))
 
 -- the node of a task is in view if the task is
@@ -202,10 +174,10 @@ scope_in_view : (h : History) (v : View) (s : ℕ) (o : Opening) → opening h s
 unfolding scope_seen
 scope_in_view h v s o is =
     let it = scope_node_is h s o is in
-    let node : node_of h (scope_node h s) ≡ Some (node.Scope s) =
+    let node : node_of h (scope_node h s) ≡ Some (Node.Scope s) =
     ap (node_of h) it.3 ∙ (scope_at h (forked_count h + it.0) (omega arith)
-    ∙ (ap (λ (i : ℕ). cond (nat_lt i (opened_count h)) (Some (node.Scope (h.base.scopes + 1 + i))) None) (omega arith)
-    ∙ (ap (λ b. cond b (Some (node.Scope (h.base.scopes + 1 + it.0))) None) (lt-ltb it.0 (opened_count h) it.1) ∙ ap (λ x. Some (node.Scope x)) it.2))) in
+    ∙ (ap (λ (i : ℕ). cond (nat_lt i (opened_count h)) (Some (Node.Scope (h.base.scopes + 1 + i))) None) (omega arith)
+    ∙ (ap (λ b. cond b (Some (Node.Scope (h.base.scopes + 1 + it.0))) None) (lt-ltb it.0 (opened_count h) it.1) ∙ ap (λ x. Some (Node.Scope x)) it.2))) in
     ap (seen_by h v) node ∙ ap (λ (p : Option Opening). option_map_or (λ (q : Opening). meets v q.place (closed_place h s)) p false) is
 
 pub each_task : EachTaskHasOneLane

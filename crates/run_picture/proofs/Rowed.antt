@@ -1,24 +1,8 @@
 -- How many figures of a kind the rows have, by the node that begins each.
-use Rattle.std.proofs.Common.{◌≡◌, ◌≢◌, ℕ, ◌+◌, ◌-◌, ◌<◌, ◌≤◌, ◌==◌, ◌&&◌, nat_lt, nat_le, Bool, true, false, cond, Option, Some, None, List, [], ◌∷◌, length, slice_get, sum_by, refl, ap, sym, ◌∙◌, arith, inl, inr}
-use Rattle.std.proofs.lemmas.Bool.{cases_eq, cases_lt, eq-eqb, ne_eqb, lt-ltb, le-ltb}
-use Rattle.std.proofs.lemmas.List.Sums.{sum_by-cons}
-use Rattle.std.specs.Option.{option_map_or}
-use Rattle.scope_rules.specs.declared.types.records.Forking.{Forking}
-use Rattle.scope_rules.specs.declared.types.records.Opening.{Opening}
-use Rattle.scope_rules.specs.History.{History, forked_count, forking, opened_count, opening, scopes, tasks}
-use Rattle.scope_rules.proofs.Forkings.{forked_after}
-use Rattle.scope_rules.proofs.Innermosts.{opened_after}
-use Rattle.run_picture.specs.declared.rows.Folded.{Folded}
-use Rattle.run_picture.specs.declared.rows.Node.{Node}
-use Rattle.run_picture.specs.declared.rows.Node.TheVariants as node
-use Rattle.run_picture.specs.declared.rows.Row.{Row}
-use Rattle.run_picture.specs.Chart.{drawn_rows}
-use Rattle.run_picture.specs.Drawing.{Figure, all, count_in}
-use Rattle.run_picture.specs.Lanes.{node_lane, row_drawn, scope_lane, task_lane}
-use Rattle.run_picture.specs.Nodes.{node_count, scope_node, task_node}
-use Rattle.run_picture.specs.Picture.{indexes, row_at}
-use Rattle.run_picture.specs.Rows.{node_of}
-use Rattle.run_picture.specs.Sheet.{Sheet}
+use Rattle.run_picture.specs.{[], ℕ, ◌+◌, ◌-◌, ◌<◌, ◌==◌, ◌∷◌, ◌≡◌, ◌≤◌, Bool, Figure, Folded, Forking, History, List, Node, None, Opening, Option, Row, Sheet.Sheet, Some, all, cond, count_in}
+use Rattle.run_picture.specs.{drawn_rows, false, forked_count, forking, indexes, nat_lt, node_lane, node_of, opened_count, opening, row_at, row_drawn, scope_lane, scope_node, scopes, task_lane}
+use Rattle.run_picture.specs.{task_node, tasks, true}
+use Rattle.run_picture.proofs.Lemmas.{◌∙◌, ◌≢◌, ap, arith, cases_eq, cases_lt, eq-eqb, forked_after, inl, inr, le-ltb, lt-ltb, ne_eqb, opened_after, refl, sum_by, sum_by-cons, sym}
 use Rattle.run_picture.proofs.Counted.{rows_counted}
 
 pub sum_zero : (w : Row → ℕ) (rows : List Row) → ((r : Row) → w r ≡ 0) → sum_by w rows ≡ 0
@@ -31,11 +15,11 @@ rows_drawn test h d w each = rows_counted test (row_drawn h d) w (drawn_rows h d
 
 -- ---- nodes
 
-pub task_at : (h : History) (n : ℕ) → n < forked_count h → node_of h n ≡ Some (node.Task (h.base.tasks + 1 + n))
-task_at h n small = ap (λ b. cond b (Some (node.Task (h.base.tasks + 1 + n))) (cond (nat_lt (n - forked_count h) (opened_count h)) (Some (node.Scope (h.base.scopes + 1 + (n - forked_count h)))) None)) (lt-ltb n (forked_count h) small)
+pub task_at : (h : History) (n : ℕ) → n < forked_count h → node_of h n ≡ Some (Node.Task (h.base.tasks + 1 + n))
+task_at h n small = ap (λ b. cond b (Some (Node.Task (h.base.tasks + 1 + n))) (cond (nat_lt (n - forked_count h) (opened_count h)) (Some (Node.Scope (h.base.scopes + 1 + (n - forked_count h)))) None)) (lt-ltb n (forked_count h) small)
 
-pub scope_at : (h : History) (n : ℕ) → forked_count h ≤ n → node_of h n ≡ cond (nat_lt (n - forked_count h) (opened_count h)) (Some (node.Scope (h.base.scopes + 1 + (n - forked_count h)))) None
-scope_at h n more = ap (λ b. cond b (Some (node.Task (h.base.tasks + 1 + n))) (cond (nat_lt (n - forked_count h) (opened_count h)) (Some (node.Scope (h.base.scopes + 1 + (n - forked_count h)))) None)) (le-ltb n (forked_count h) more)
+pub scope_at : (h : History) (n : ℕ) → forked_count h ≤ n → node_of h n ≡ cond (nat_lt (n - forked_count h) (opened_count h)) (Some (Node.Scope (h.base.scopes + 1 + (n - forked_count h)))) None
+scope_at h n more = ap (λ b. cond b (Some (Node.Task (h.base.tasks + 1 + n))) (cond (nat_lt (n - forked_count h) (opened_count h)) (Some (Node.Scope (h.base.scopes + 1 + (n - forked_count h)))) None)) (le-ltb n (forked_count h) more)
 
 -- the node of a task, and of a scope
 pub task_node_is : (h : History) (k : ℕ) (f : Forking) → forking h k ≡ Some f → (n : ℕ) × (n < forked_count h) × (h.base.tasks + 1 + n ≡ k) × (task_node h k ≡ n)
@@ -67,7 +51,7 @@ task_rows h d test k c f is here other scope i r =
           elim (cases_eq r.node it.0) [
             | inl same ↦
                 let numbered : h.base.tasks + 1 + r.node ≡ k = omega (arith, same, it.2) in
-                ap (λ n. count_in test (node_lane h d i r n)) (task_at h r.node small ∙ ap (λ x. Some (node.Task x)) numbered)
+                ap (λ n. count_in test (node_lane h d i r n)) (task_at h r.node small ∙ ap (λ x. Some (Node.Task x)) numbered)
                 ∙ (here i r.depth r.folded ∙ sym (ap (λ b. cond b c 0) (eq-eqb r.node (task_node h k) (same ∙ sym it.3))))
             | inr differ ↦
                 let apart : h.base.tasks + 1 + r.node ≢ k = λ same. differ (omega (arith, same, it.2)) in
@@ -80,7 +64,7 @@ task_rows h d test k c f is here other scope i r =
           ∙ (by (nat_lt (r.node - forked_count h) (opened_count h)) ∙ sym (ap (λ b. cond b c 0) (ne_eqb r.node (task_node h k) apart)))
     ]
   where
-    by : (b : Bool) → count_in test (node_lane h d i r (cond b (Some (node.Scope (h.base.scopes + 1 + (r.node - forked_count h)))) None)) ≡ 0
+    by : (b : Bool) → count_in test (node_lane h d i r (cond b (Some (Node.Scope (h.base.scopes + 1 + (r.node - forked_count h)))) None)) ≡ 0
     by true = scope i r.depth (h.base.scopes + 1 + (r.node - forked_count h)) r.folded
     by false = refl
 
@@ -104,7 +88,7 @@ scope_rows h d test s c o is here other task i r =
             | inl same ↦
                 let numbered : h.base.scopes + 1 + (r.node - forked_count h) ≡ s = omega (arith, same, it.2, it.3) in
                 let within : r.node - forked_count h < opened_count h = omega (arith, same, it.1, it.3) in
-                ap (λ b. count_in test (node_lane h d i r (cond b (Some (node.Scope (h.base.scopes + 1 + (r.node - forked_count h)))) None))) (lt-ltb (r.node - forked_count h) (opened_count h) within)
+                ap (λ b. count_in test (node_lane h d i r (cond b (Some (Node.Scope (h.base.scopes + 1 + (r.node - forked_count h)))) None))) (lt-ltb (r.node - forked_count h) (opened_count h) within)
                 ∙ (ap (λ x. count_in test (scope_lane h d i r.depth x r.folded)) numbered ∙ (here i r.depth r.folded ∙ sym (ap (λ b. cond b c 0) (eq-eqb r.node (scope_node h s) same))))
             | inr differ ↦
                 let apart : h.base.scopes + 1 + (r.node - forked_count h) ≢ s = λ same. differ (omega (arith, same, it.2, it.3, more)) in
@@ -112,7 +96,7 @@ scope_rows h d test s c o is here other task i r =
           ]
     ]
   where
-    by : ((h.base.scopes + 1 + (r.node - forked_count h)) == s) ≡ false → (b : Bool) → count_in test (node_lane h d i r (cond b (Some (node.Scope (h.base.scopes + 1 + (r.node - forked_count h)))) None)) ≡ 0
+    by : ((h.base.scopes + 1 + (r.node - forked_count h)) == s) ≡ false → (b : Bool) → count_in test (node_lane h d i r (cond b (Some (Node.Scope (h.base.scopes + 1 + (r.node - forked_count h)))) None)) ≡ 0
     by apart true = other (h.base.scopes + 1 + (r.node - forked_count h)) i r.depth r.folded apart
     by apart false = refl
 
@@ -123,6 +107,6 @@ pub no_rows : (h : History) (d : Sheet) (test : Figure → Bool) → ((row depth
 no_rows h d test task scope i r = by (node_of h r.node)
   where
     by : (o : Option Node) → count_in test (node_lane h d i r o) ≡ 0
-    by (Some (node.Task k)) = task i r.depth k r.folded
-    by (Some (node.Scope s)) = scope i r.depth s r.folded
+    by (Some (Node.Task k)) = task i r.depth k r.folded
+    by (Some (Node.Scope s)) = scope i r.depth s r.folded
     by None = refl

@@ -1,13 +1,6 @@
 -- The nodes that are in view, one node after the other.
-use Rattle.std.proofs.Common.{◌≡◌, ℕ, ◌+◌, ◌==◌, ◌&&◌, Bool, true, false, true≢false, cond, eqb-true, refl, ap, sym, ◌∙◌, List, [], ◌∷◌, ◌++◌, take, slice_get, Some, count_by, arith, append-nil}
-use Rattle.std.specs.List.{filter}
-use Rattle.std.proofs.lemmas.List.Elements.{filter-append}
-use Rattle.std.proofs.lemmas.List.Sums.{sum_by-cons}
-use Rattle.scope_rules.specs.History.{History}
-use Rattle.scope_rules.proofs.Prefixes.{take_at}
-use Rattle.run_picture.specs.declared.forest.Placed.{Placed}
-use Rattle.run_picture.specs.declared.view.View.{View}
-use Rattle.run_picture.specs.Seen.{is_seen, seen_rows}
+use Rattle.run_picture.specs.{[], ℕ, ◌++◌, ◌+◌, ◌==◌, ◌∷◌, ◌≡◌, Bool, History, List, Placed, Some, Words.View, cond, count_by, false, is_seen, seen_rows, slice_get, true}
+use Rattle.run_picture.proofs.Lemmas.{◌∙◌, ap, append-nil, arith, eqb-true, filter-append, refl, sum_by-cons, sym, take, take_at, true≢false}
 
 abbrev zero_by : Bool → ℕ
 zero_by b = cond b 0 0

@@ -1,21 +1,8 @@
 -- At which stage a task is that ended, or never starts, by where it started and ended.
-use Rattle.std.proofs.Common.{◌≡◌, ℕ, zero, suc, ◌<◌, ◌||◌, Bool, true, false, cond, is_some, Option, Some, None, List, [], ◌∷◌, take, slice_get, refl, ap, sym, ◌∙◌, arith, inl, inr}
-use Rattle.std.proofs.lemmas.Bool.{cases_eq, cases_lt}
-use Rattle.std.specs.List.{list_any}
-use Rattle.scope_rules.specs.declared.types.answers.Stage.{Stage}
-use Rattle.scope_rules.specs.declared.types.answers.Stage.TheVariants.{Never, Waiting, Running, Finished}
-use Rattle.scope_rules.specs.declared.types.capacity.Limits.{Limits}
-use Rattle.scope_rules.specs.declared.types.events.Event.{Event}
-use Rattle.scope_rules.specs.declared.types.events.Event.TheVariants as event
-use Rattle.scope_rules.specs.declared.types.records.Forking.{Forking}
-use Rattle.scope_rules.specs.Cancels.{cancelled_before}
-use Rattle.scope_rules.specs.History.{History, before, forking}
-use Rattle.scope_rules.specs.Legal.{Legal}
-use Rattle.scope_rules.specs.Tasks.{finished, finishes, is_running, rejected, rejects, stage, started, starts}
-use Rattle.scope_rules.proofs.Accepted.{waiting_task}
-use Rattle.scope_rules.proofs.Earlier.{get_take}
-use Rattle.scope_rules.proofs.PassedRows.{finisher_passed, rejecter_passed, starter_passed}
-use Rattle.scope_rules.proofs.Stages.{running_forked, stage_is, staged}
+use Rattle.run_picture.specs.{[], ℕ, ◌||◌, ◌∷◌, ◌≡◌, Bool, Event, Finished, Forking, History, Legal, Limits, List, Never, Some, before, cancelled_before, false, finished, finishes, forking}
+use Rattle.run_picture.specs.{is_running, list_any, rejected, rejects, slice_get, stage, started, starts, suc, true, zero}
+use Rattle.run_picture.proofs.Lemmas.{◌∙◌, ap, arith, cases_eq, cases_lt, finisher_passed, get_take, inl, inr, refl, rejecter_passed, running_forked, stage_is, staged, starter_passed, sym, take}
+use Rattle.run_picture.proofs.Lemmas.{waiting_task}
 
 -- ---- tests of some element
 
@@ -51,7 +38,7 @@ apart b one other = absurd cc
 -- ---- starts, rejects and ends
 
 exclusive : (k : ℕ) (e : Event) → rejects k e ≡ true → starts k e ≡ true → ⊥
-exclusive k (event.Reject task) one other = absurd cc
+exclusive k (Event.Reject task) one other = absurd cc
 exclusive k _ one other = absurd cc
 
 running_is : (c r f s : Bool) → is_running (staged c r f s) ≡ true → s ≡ true

@@ -1,55 +1,16 @@
 -- Each mark and each line of a cancel tells the truth.
-use Rattle.std.proofs.Common.{◌≡◌, ◌⊎◌, inl, inr, ℕ, zero, suc, ◌+◌, ◌<◌, ◌≤◌, ◌==◌, ◌||◌, is_some, ◌&&◌, nat_lt, nat_le, max, not, if◌then◌else◌, Bool, true, false, cond, Option, Some, None, option_map, List, [], ◌∷◌, slice_get, refl, ap, sym, ◌∙◌, arith, subst}
-use Rattle.std.proofs.lemmas.Bool.{ltb-true}
-use Rattle.std.specs.Option.{option_and_then, option_map_or}
-use Rattle.scope_checks.specs.Queries.{cancellation}
-use Rattle.scope_rules.specs.declared.types.answers.Cause.{Cause}
-use Rattle.scope_rules.specs.declared.types.answers.State.{State}
-use Rattle.scope_rules.specs.declared.types.events.Event.{Event}
-use Rattle.scope_rules.specs.declared.types.events.Event.TheVariants as event
-use Rattle.scope_rules.specs.declared.types.records.FirstCancel.{FirstCancel}
-use Rattle.scope_rules.specs.declared.types.records.Forking.{Forking}
-use Rattle.scope_rules.specs.declared.types.records.Opening.{Opening}
-use Rattle.scope_rules.specs.declared.types.records.OwnCancel.{OwnCancel}
-use Rattle.scope_rules.specs.Cancels.{cancelled_at, cancelled_before, cause, first_cancel, own, own_cancel}
-use Rattle.scope_rules.specs.Chains.{chain_by, first_cancel_by, earliest_on, nearer, onward, outwards}
-use Rattle.scope_rules.specs.History.{History, before, forking, opening, scope_numbers, tick_of}
-use Rattle.scope_rules.specs.Scopes.{around, closed, outer}
-use Rattle.scope_rules.specs.declared.types.capacity.Limits.{Limits}
-use Rattle.scope_rules.specs.Legal.{Legal}
-use Rattle.scope_rules.specs.Tasks.{finished, rejected, state}
+use Rattle.run_picture.specs.{ℕ, ◌&&◌, ◌+◌, ◌||◌, ◌≡◌, Blank, Bool, Cause, ComesTo, Drawing.Drawing, EachMarkIsSo, Event, Everywhere, Fate, Figure, FirstCancel, Folded, Forking, History, HoldsAgainst}
+use Rattle.run_picture.specs.{IsCancelledAt, Legal, Limits, Mark, Node, None, Opening, Option, OwnCancel, Parts.Parts, Row, Shade, Sheet.Sheet, Some, StandsAt, TellsTruth, Words.View, around, bar_in}
+use Rattle.run_picture.specs.{before, begins_to_close, cancel_drawn, cancel_figures, cancellation, cancelled_at, cancelled_before, cause, chain_by, closed, closed_place, cond, drawn, drawn_rows}
+use Rattle.run_picture.specs.{earliest_on, end_mark, ended, event_figures, false, finished, first_cancel, first_cancel_by, fork_drawn, forked_lane, forking, goes_on, held_mark, held_off}
+use Rattle.run_picture.specs.{if◌then◌else◌, in_view, indexes, inwards, is_some, lane_by, life_drawn, mark_at, marked, moment_line, nat_le, nat_lt, nearer, node_lane, node_of, not, onward}
+use Rattle.run_picture.specs.{opened_shield, opening, option_and_then, option_map, option_map_or, outer, outwards, own, own_cancel, places, rejected, row_at, row_drawn, row_y, scope_lane}
+use Rattle.run_picture.specs.{scope_numbers, scope_of, scope_row, shield_figures, shows, slice_get, state, suc, task_lane, there, tick_of, true, zero}
+use Rattle.run_picture.proofs.Lemmas.{◌∙◌, ◌⊎◌, and_then_some, ap, ended_is, if_some, inl, inr, ltb-true, refl, started_is, subst, sym}
+use Rattle.run_picture.proofs.{Drawings.everywhere_all, Staged.ended_started, Staged.ended_unstarted, Staged.under_cancel}
+use Rattle.run_picture.specs.{Lanes.started, Marked.IsSo}
 use Rattle.scope_rules.specs.Tasks as tasks
-use Rattle.scope_rules.proofs.Openings.{and_then_some, if_some}
-use Rattle.run_picture.specs.declared.marks.Mark.{Mark}
-use Rattle.run_picture.specs.declared.marks.Mark.TheVariants as mark
-use Rattle.run_picture.specs.declared.rows.Folded.{Folded}
-use Rattle.run_picture.specs.declared.rows.Node.{Node}
-use Rattle.run_picture.specs.declared.rows.Node.TheVariants as node
-use Rattle.run_picture.specs.declared.rows.Row.{Row}
-use Rattle.run_picture.specs.Cancels.{cancel_drawn, cancel_figures}
-use Rattle.run_picture.specs.Closings.{begins_to_close}
-use Rattle.run_picture.specs.Chart.{drawn_rows}
 use Rattle.run_picture.specs.Drawing as drawing
-use Rattle.run_picture.specs.Drawing.{Drawing, Everywhere, Figure, Blank, all, in_view}
-use Rattle.run_picture.specs.Events.{drawn, event_figures, marked, moment_line}
-use Rattle.run_picture.specs.Lanes.{bar_in, end_mark, ended, fork_drawn, forked_lane, lane_by, life_drawn, node_lane, row_drawn, scope_lane, scope_of, started, task_lane}
-use Rattle.run_picture.specs.Marked.{ComesTo, there, inwards, EachMarkIsSo, HoldsAgainst, IsCancelledAt, IsReachOf, IsSo, StandsAt, TellsTruth}
-use Rattle.run_picture.specs.Parts.{Parts}
-use Rattle.run_picture.specs.Picture.{figures, indexes, places, row_at}
-use Rattle.run_picture.specs.Rows.{node_of}
-use Rattle.run_picture.specs.Sheet.{Sheet}
-use Rattle.run_picture.specs.Shields.{goes_on, held_mark, held_off, opened_shield, shield_figures}
-use Rattle.run_picture.specs.Landmarks.{first_place}
-use Rattle.run_picture.specs.declared.captions.Fate.TheVariants as fate
-use Rattle.run_picture.specs.declared.landmarks.Landmark.TheVariants as landmark
-use Rattle.run_picture.specs.declared.strokes.Shade.TheVariants as shade
-use Rattle.run_picture.specs.Sites.{closed_place, mark_at, scope_row}
-use Rattle.run_picture.specs.Spots.{row_y}
-use Rattle.run_picture.specs.View.{shows}
-use Rattle.run_picture.specs.declared.view.View.{View}
-use Rattle.run_picture.proofs.Drawings.{everywhere_all}
-use Rattle.run_picture.proofs.Ended.{ended_is, started_is}
-use Rattle.run_picture.proofs.Staged.{ended_started, ended_unstarted, under_cancel}
 
 pub everywhere_or : {A B : Type 0} (P : B → Type 0) (draw : A → Parts B) (o : Option A) → ((x : A) → o ≡ Some x → Everywhere P (draw x)) → Everywhere P (option_map_or draw o Blank)
 everywhere_or P draw None each = tt
@@ -144,10 +105,10 @@ module _ (h : History) (d : Sheet) where
   marked_so i s m so = everywhere_or (TellsTruth h d) (λ row. drawing.mark (mark_at h d i (row_y row) m)) (scope_row h d s) so
 
   event_so : (i : ℕ) (e : Event) → slice_get h.events i ≡ Some e → Everywhere (TellsTruth h d) (drawn h d i e)
-  event_so i (event.Move s deadline) at = marked_so i s (mark.Moved s deadline) (λ row is. (i, at, stands s i row (mark.Moved s deadline) is))
-  event_so i (event.Join a s) at = marked_so i s (mark.Joined s) (λ row is. (i, a, at, stands s i row (mark.Joined s) is))
-  event_so i (event.BeginClose a s) at = marked_so i s (mark.Closing s) (λ row is. (i, a, at, stands s i row (mark.Closing s) is))
-  event_so i (event.EndClose a s) at = marked_so i s (mark.Closed s) (λ row is. (i, a, at, stands s i row (mark.Closed s) is))
+  event_so i (Event.Move s deadline) at = marked_so i s (Mark.Moved s deadline) (λ row is. (i, at, stands s i row (Mark.Moved s deadline) is))
+  event_so i (Event.Join a s) at = marked_so i s (Mark.Joined s) (λ row is. (i, a, at, stands s i row (Mark.Joined s) is))
+  event_so i (Event.BeginClose a s) at = marked_so i s (Mark.Closing s) (λ row is. (i, a, at, stands s i row (Mark.Closing s) is))
+  event_so i (Event.EndClose a s) at = marked_so i s (Mark.Closed s) (λ row is. (i, a, at, stands s i row (Mark.Closed s) is))
   event_so i _ at = tt
 
   events_so : (i : ℕ) → Everywhere (TellsTruth h d) (event_figures h d i)
@@ -212,7 +173,7 @@ module _ (h : History) (d : Sheet) where
   shield_so s o is =
       everywhere_if (TellsTruth h d) o.options.shield (option_map_or (λ (c : ℕ × Cause). in_view d.view c.0 (held_mark h d s c.0 c.1.scope)) (held_off h s o) Blank) Blank
       (λ shield. everywhere_or (TellsTruth h d) (λ (c : ℕ × Cause). in_view d.view c.0 (held_mark h d s c.0 c.1.scope)) (held_off h s o)
-      (λ c held. everywhere_in_view (TellsTruth h d) d.view c.0 _ (marked_so c.0 s (mark.Held s c.1.scope) (λ row has. (c.0, holds s o c is shield held, stands s c.0 row (mark.Held s c.1.scope) has)))))
+      (λ c held. everywhere_in_view (TellsTruth h d) d.view c.0 _ (marked_so c.0 s (Mark.Held s c.1.scope) (λ row has. (c.0, holds s o c is shield held, stands s c.0 row (Mark.Held s c.1.scope) has)))))
       (λ none. tt)
 
   shields_so : (s : ℕ) → Everywhere (TellsTruth h d) (shield_figures h d s)
@@ -235,7 +196,7 @@ module _ (h : History) (d : Sheet) where
     fork_so : (y k : ℕ) (f : Forking) → forking h k ≡ Some f → Everywhere (TellsTruth h d) (fork_drawn h d y k f)
     unfolding fork_drawn
     fork_so y k f is =
-        everywhere_if (TellsTruth h d) (cancelled_before h f.scope f.place) (in_view d.view f.place (drawing.mark (mark_at h d f.place y (mark.Never k)))) (life_drawn h d y k f) (λ under. everywhere_in_view (TellsTruth h d) d.view f.place _ (under_cancel L h legal k f is under))
+        everywhere_if (TellsTruth h d) (cancelled_before h f.scope f.place) (in_view d.view f.place (drawing.mark (mark_at h d f.place y (Mark.Never k)))) (life_drawn h d y k f) (λ under. everywhere_in_view (TellsTruth h d) d.view f.place _ (under_cancel L h legal k f is under))
         (λ lives. (tt, (everywhere_or (TellsTruth h d) _ (started h k) (λ at ran. tt), everywhere_or (TellsTruth h d) (λ at. in_view d.view at (drawing.mark (mark_at h d at y (end_mark k (started h k) (state h k))))) (ended h k) (λ at ends. everywhere_in_view (TellsTruth h d) d.view at _ (end_so k at y f is lives ends)))))
 
     task_so : (row depth k : ℕ) (folded : Option Folded) → Everywhere (TellsTruth h d) (task_lane h d row depth k folded)
@@ -244,7 +205,7 @@ module _ (h : History) (d : Sheet) where
 
   lane_so : (row depth s : ℕ) (folded : Option Folded) (o : Opening) → Everywhere (TellsTruth h d) (lane_by h d row depth s folded o)
   lane_so row depth s (Some f) o = (tt, tt)
-  lane_so row depth s None o = (tt, (tt, (everywhere_or (TellsTruth h d) _ (cancellation h s) (λ c is. tt), everywhere_or (TellsTruth h d) (λ at. drawing.bar (bar_in h d (row_y row) (scope_of s o) at (closed_place h s) shade.Closing fate.Closing)) (begins_to_close h s) (λ at is. tt))))
+  lane_so row depth s None o = (tt, (tt, (everywhere_or (TellsTruth h d) _ (cancellation h s) (λ c is. tt), everywhere_or (TellsTruth h d) (λ at. drawing.bar (bar_in h d (row_y row) (scope_of s o) at (closed_place h s) Shade.Closing Fate.Closing)) (begins_to_close h s) (λ at is. tt))))
 
   scope_so : (row depth s : ℕ) (folded : Option Folded) → Everywhere (TellsTruth h d) (scope_lane h d row depth s folded)
   unfolding scope_lane
@@ -252,8 +213,8 @@ module _ (h : History) (d : Sheet) where
 
   module _ (L : Limits) (legal : Legal L h) where
     node_so : (i : ℕ) (r : Row) (o : Option Node) → Everywhere (TellsTruth h d) (node_lane h d i r o)
-    node_so i r (Some (node.Task k)) = task_so L legal i r.depth k r.folded
-    node_so i r (Some (node.Scope s)) = scope_so i r.depth s r.folded
+    node_so i r (Some (Node.Task k)) = task_so L legal i r.depth k r.folded
+    node_so i r (Some (Node.Scope s)) = scope_so i r.depth s r.folded
     node_so i r None = tt
 
     rows_so : (i : ℕ) → Everywhere (TellsTruth h d) (row_at h d i)

@@ -1,7 +1,6 @@
 -- How texts that are written one after the other grow.
-use Rattle.std.proofs.Common.{◌≡◌, ℕ, zero, suc, ◌+◌, ◌-◌, ◌<◌, ◌≤◌, ◌/◌, ◌%◌, nat_lt, Bool, true, false, cond, List, [], ◌∷◌, ◌++◌, refl, ap, sym, ◌∙◌, arith, add-one, inl, inr}
-use Rattle.std.proofs.lemmas.Bool.{cases_lt, lt-ltb, le-ltb}
-use Rattle.run_picture.specs.Digits.{digits_in, each_text, number_text}
+use Rattle.run_picture.specs.{[], ℕ, ◌%◌, ◌++◌, ◌+◌, ◌/◌, ◌<◌, ◌∷◌, ◌≡◌, ◌≤◌, List, cond, digits_in, each_text, number_text, suc, zero}
+use Rattle.run_picture.proofs.Lemmas.{◌∙◌, add-one, ap, arith, cases_lt, inl, inr, le-ltb, lt-ltb, refl, sym}
 
 pub each_none : (f : ℕ → List ℕ) → each_text f 0 ≡ []
 unfolding each_text

@@ -1,13 +1,6 @@
 -- What lay around a scope as it was opened, and how it is found by number.
-use Rattle.std.specs.Prelude.{◌≡◌, ℕ, ◌+◌, ◌<◌, ◌≤◌, true, Option, None, Some, unwrap_or, List, length, get_or}
-use Rattle.std.specs.Option.{option_and_then}
-use Rattle.scope_rules.specs.declared.types.records.Opening.{Opening}
-use Rattle.scope_rules.specs.History.{History, before, opening, opened_count}
-use Rattle.scope_rules.specs.Scopes.{closed, innermost}
-use Rattle.run_picture.specs.declared.arounds.Nest.{Nest}
-use Rattle.run_picture.specs.declared.arounds.Owns.{Owns}
-use Rattle.run_picture.specs.declared.landmarks.Landmark.TheVariants as landmark
-use Rattle.run_picture.specs.Landmarks.{HasFirsts}
+use Rattle.run_picture.specs.Words.{ℕ, ◌+◌, ◌<◌, ◌≡◌, ◌≤◌, HasFirsts, History, Landmark, List, Nest, None, Opening, Option, Owns, Some, before, closed, get_or, innermost, length, opened_count}
+use Rattle.run_picture.specs.Words.{opening, option_and_then, true, unwrap_or}
 
 -- the innermost scope of the actor that opened scope s, just before it did
 abbrev pub own_around : History → ℕ → Option ℕ
@@ -46,5 +39,5 @@ pub record AreLasts (find : ℕ → Option ℕ) (h : History) (n : ℕ) : Type 0
 
 -- the places of the closes, and those scopes
 pub record IsNestOf (nest : Nest) (h : History) : Type 0 where
-  pub closes : HasFirsts nest.closes landmark.Closed h.events h.base.scopes (opened_count h)
+  pub closes : HasFirsts nest.closes Landmark.Closed h.events h.base.scopes (opened_count h)
   pub owns : HasOwns nest.owns h

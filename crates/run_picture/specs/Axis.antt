@@ -1,14 +1,6 @@
 -- The axis of a picture with times: a line at each of some round ones, and the time at its foot.
-use Rattle.std.specs.Prelude.{ℕ, ◌+◌, ◌-◌, ◌*◌, ◌/◌, ◌&&◌, ◌==◌, nat_le, List, [], ◌++◌, codes, length, if◌then◌else◌}
-use Rattle.std.specs.List.{range_with_len}
-use Rattle.std.specs.Fmt.{decimal}
-use Rattle.scope_rules.specs.History.{History}
-use Rattle.run_picture.specs.declared.axis.AxisMark.{AxisMark}
-use Rattle.run_picture.specs.Chart.{drawn_rows}
-use Rattle.run_picture.specs.Parts.{Parts, Blank, One, all, written}
-use Rattle.run_picture.specs.Sheet.{Sheet}
-use Rattle.run_picture.specs.Spots.{row_y}
-use Rattle.run_picture.specs.View.{first_time, span_time, x_by}
+use Rattle.run_picture.specs.Words.{[], ℕ, ◌&&◌, ◌*◌, ◌++◌, ◌+◌, ◌-◌, ◌/◌, ◌==◌, AxisMark, History, List, codes, decimal, if◌then◌else◌, length, nat_le, range_with_len}
+use Rattle.run_picture.specs.{Chart.drawn_rows, Parts.Blank, Parts.One, Parts.Parts, Parts.all, Parts.written, Sheet.Sheet, Spots.row_y, View.first_time, View.span_time, View.x_by}
 
 -- the power of ten of which the span has at most fifty
 abbrev pub power_of : ℕ → ℕ

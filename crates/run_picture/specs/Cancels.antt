@@ -1,21 +1,9 @@
 -- The cancels of a picture: which scope became cancelled where, and by whose own cancel.
-use Rattle.std.specs.Prelude.{ℕ, Bool, true, false, not, nat_lt}
-use Rattle.std.specs.Option.{option_map_or}
-use Rattle.scope_checks.specs.Queries.{cancellation}
-use Rattle.scope_rules.specs.declared.types.answers.Cause.{Cause}
-use Rattle.scope_rules.specs.declared.types.answers.CauseKind.{CauseKind}
-use Rattle.scope_rules.specs.declared.types.answers.CauseKind.TheVariants.{Call, Close, Joiner, Deadline}
-use Rattle.scope_rules.specs.declared.types.joiners.Policy.{Policy}
-use Rattle.scope_rules.specs.declared.types.joiners.Policy.TheVariants.{All, AwaitOk, Until}
-use Rattle.scope_rules.specs.declared.types.joiners.Rule.TheVariants.{FailuresAtLeast}
-use Rattle.scope_rules.specs.History.{History, opening}
-use Rattle.run_picture.specs.Sheet.{Sheet}
-use Rattle.run_picture.specs.declared.landmarks.Landmark.TheVariants as landmark
-use Rattle.run_picture.specs.declared.marks.Mark.TheVariants.{Cancelled}
-use Rattle.run_picture.specs.Landmarks.{first_place}
-use Rattle.run_picture.specs.Drawing.{Drawing, Blank, One, Both, AReach, in_view, mark}
-use Rattle.run_picture.specs.Sites.{mark_at, scope_row, x_in}
-use Rattle.run_picture.specs.Spots.{row_y}
+use Rattle.run_picture.specs.Words.{ℕ, AwaitOk, Bool, Call, Cancelled, Cause, CauseKind, Close, Deadline, FailuresAtLeast, History, Joiner, Landmark, Policy, Until, cancellation, false, first_place}
+use Rattle.run_picture.specs.Words.{nat_lt, not, opening, option_map_or, true}
+use Rattle.scope_rules.specs.declared.types.joiners.Policy.TheVariants.{All}
+use Rattle.run_picture.specs.Drawing.{AReach, Blank, Both, Drawing, One, in_view, mark}
+use Rattle.run_picture.specs.{Sheet.Sheet, Sites.mark_at, Sites.scope_row, Sites.x_in, Spots.row_y}
 
 -- a scope of this policy is cancelled by its joiner because tasks failed
 abbrev pub fails_by : Policy → Bool
@@ -26,7 +14,7 @@ fails_by _ = false
 
 -- scope s was joined before the place
 abbrev pub joined_by : History → ℕ → ℕ → Bool
-joined_by h s place = option_map_or (λ o. option_map_or (λ at. nat_lt at place) (first_place landmark.Joined h.events s) false) (opening h s) false
+joined_by h s place = option_map_or (λ o. option_map_or (λ at. nat_lt at place) (first_place Landmark.Joined h.events s) false) (opening h s) false
 
 abbrev pub accident_by : History → ℕ → ℕ → CauseKind → Bool
 accident_by h place s Call = true

@@ -1,20 +1,6 @@
 -- What a row and a bar are called.
-use Rattle.std.specs.Prelude.{ℕ, ◌==◌, Option, None, Some, List, [], ◌++◌, codes, if◌then◌else◌}
-use Rattle.std.specs.Fmt.{decimal}
-use Rattle.scope_rules.specs.Names.{text_of}
-use Rattle.scope_log.specs.LogText.{joiner_text, options_text}
-use Rattle.run_picture.specs.declared.captions.Fate.{Fate}
-use Rattle.run_picture.specs.declared.captions.Fate.TheVariants as fate
-use Rattle.run_picture.specs.declared.captions.Label.{Label}
-use Rattle.run_picture.specs.declared.captions.Measure.{Measure}
-use Rattle.run_picture.specs.declared.captions.Measure.TheVariants.{Events, Lines, Millis}
-use Rattle.run_picture.specs.declared.captions.ShownFork.{ShownFork}
-use Rattle.run_picture.specs.declared.captions.ShownScope.{ShownScope}
-use Rattle.run_picture.specs.declared.captions.Span.{Span}
-use Rattle.run_picture.specs.declared.captions.Subject.{Subject}
-use Rattle.run_picture.specs.declared.captions.Subject.TheVariants as subject
-use Rattle.run_picture.specs.declared.captions.Title.{Title}
-use Rattle.run_picture.specs.declared.rows.Folded.{Folded}
+use Rattle.run_picture.specs.Words.{[], ℕ, ◌++◌, ◌==◌, Events, Fate, Folded, Label, Lines, List, Measure, Millis, None, Option, ShownFork, ShownScope, Some, Span, Subject, Title, codes, decimal}
+use Rattle.run_picture.specs.Words.{if◌then◌else◌, joiner_text, options_text, text_of}
 use Rattle.run_picture.specs.MarkText.{cause_text, ended_text}
 
 -- the owner of a scope, if it is a task
@@ -30,28 +16,32 @@ unfoldable pub fork_text : ShownFork → List ℕ
 fork_text f = decimal f.task ++ codes " " ++ text_of f.name ++ codes " in scope " ++ decimal f.scope
 
 abbrev pub subject_text : Subject → List ℕ
-subject_text (subject.Scope s) = scope_text s
-subject_text (subject.Task f) = codes "task " ++ fork_text f
+subject_text (Subject.Scope s) = scope_text s
+subject_text (Subject.Task f) = codes "task " ++ fork_text f
 
 -- the class of its label
 abbrev pub label_class : Subject → List ℕ
-label_class (subject.Scope s) = codes "scope"
-label_class (subject.Task f) = codes "task"
+label_class (Subject.Scope s) = codes "scope"
+label_class (Subject.Task f) = codes "task"
+
+-- how many tasks have not ended, if there are such
+abbrev pub unended_text : ℕ → List ℕ
+unended_text n = if n == 0 then [] else codes ", " ++ decimal n ++ codes " not ended"
 
 -- what lies in a folded row
 unfoldable pub folded_text : Folded → List ℕ
-folded_text f = codes " (" ++ decimal f.tasks ++ codes " tasks, " ++ decimal f.failed ++ codes " failed)"
+folded_text f = codes " (" ++ decimal f.tasks ++ codes " tasks, " ++ decimal f.failed ++ codes " failed" ++ unended_text f.unended ++ codes ")"
 
 -- what there is to say of a stretch of a row
 abbrev pub fate_text : Fate → List ℕ
-fate_text fate.Open = []
-fate_text (fate.Cancelled cause) = cause_text cause
-fate_text fate.Closing = codes " closing"
-fate_text (fate.Folded folded) = folded_text folded
-fate_text (fate.More folded) = codes " and more" ++ folded_text folded
-fate_text fate.Waits = codes " waits"
-fate_text fate.Runs = codes " runs"
-fate_text (fate.Ended state) = ended_text state
+fate_text Fate.Open = []
+fate_text (Fate.Cancelled cause) = cause_text cause
+fate_text Fate.Closing = codes " closing"
+fate_text (Fate.Folded folded) = folded_text folded
+fate_text (Fate.More folded) = codes " and more" ++ folded_text folded
+fate_text Fate.Waits = codes " waits"
+fate_text Fate.Runs = codes " runs"
+fate_text (Fate.Ended state) = ended_text state
 
 -- what is counted
 abbrev pub unit_word : Measure → List ℕ

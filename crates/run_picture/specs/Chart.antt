@@ -1,22 +1,8 @@
 -- What is kept of a run while it is drawn.
-use Rattle.std.specs.Prelude.{◌≡◌, ℕ, ◌+◌, ◌<◌, ◌==◌, ◌&&◌, nat_lt, is_none, Option, None, Some, List, [], ◌∷◌, length, map, get_or, slice_get, if◌then◌else◌}
-use Rattle.std.specs.List.{range_with_len}
-use Rattle.std.specs.Option.{option_and_then}
-use Rattle.scope_rules.specs.History.{History, forked_count, opened_count}
-use Rattle.scope_rules.specs.Search.{earliest}
-use Rattle.run_picture.specs.declared.chart.Chart.{Chart}
-use Rattle.run_picture.specs.declared.chart.Drawn.{Drawn}
-use Rattle.run_picture.specs.declared.forest.Placed.{Placed}
-use Rattle.run_picture.specs.declared.landmarks.Landmark.TheVariants as landmark
-use Rattle.run_picture.specs.declared.rows.Row.{Row}
-use Rattle.run_picture.specs.Arounds.{IsNestOf}
-use Rattle.run_picture.specs.Closings.{AreClosings}
-use Rattle.run_picture.specs.Forest.{first_from, rows_from}
-use Rattle.run_picture.specs.Landmarks.{HasFirsts}
+use Rattle.run_picture.specs.Words.{[], ℕ, ◌&&◌, ◌+◌, ◌<◌, ◌==◌, ◌∷◌, ◌≡◌, Chart, Drawn, HasFirsts, History, Landmark, List, None, Option, Placed, Row, Some, earliest, forked_count, get_or}
+use Rattle.run_picture.specs.Words.{if◌then◌else◌, is_none, length, map, nat_lt, opened_count, option_and_then, range_with_len, slice_get}
 use Rattle.run_picture.specs.Nodes.{keys, node_count, scope_node}
-use Rattle.run_picture.specs.Rows.{rows_of}
-use Rattle.run_picture.specs.Seen.{seen_rows}
-use Rattle.run_picture.specs.Sheet.{Sheet, sheet_of}
+use Rattle.run_picture.specs.{Arounds.IsNestOf, Closings.AreClosings, Forest.first_from, Forest.rows_from, Rows.rows_of, Seen.seen_rows, Sheet.Sheet, Sheet.sheet_of}
 
 -- the first node below each node, and behind the nodes the first root; and by node, the next one below its parent
 unfoldable pub children : History → List (Option ℕ)
@@ -64,9 +50,9 @@ pub record IsChartOf (chart : Chart) (drawn : Drawn) (h : History) : Type 0 wher
   pub drawn_is : chart.drawn ≡ drawn
   pub same : drawn.events.now ≡ h.events
   pub nest : IsNestOf chart.nest h
-  pub starts : HasFirsts chart.starts landmark.Started h.events h.base.tasks (forked_count h)
-  pub ends : HasFirsts chart.ends landmark.Ended h.events h.base.tasks (forked_count h)
-  pub joins : HasFirsts chart.joins landmark.Joined h.events h.base.scopes (opened_count h)
+  pub starts : HasFirsts chart.starts Landmark.Started h.events h.base.tasks (forked_count h)
+  pub ends : HasFirsts chart.ends Landmark.Ended h.events h.base.tasks (forked_count h)
+  pub joins : HasFirsts chart.joins Landmark.Joined h.events h.base.scopes (opened_count h)
   pub closings : AreClosings chart.closings h (opened_count h)
   pub rows : chart.rows.items ≡ drawn_rows h (sheet_of drawn)
   pub shown : AreShown chart.shown.items (drawn_rows h (sheet_of drawn)) (node_count h) (length (drawn_rows h (sheet_of drawn)))

@@ -1,13 +1,6 @@
 -- Where scopes begin to close, by a close of their own or by one that covers them.
-use Rattle.std.specs.Prelude.{◌≡◌, ℕ, zero, suc, ◌+◌, ◌<◌, min, Option, Some, None, length, get_or, if◌then◌else◌}
-use Rattle.std.specs.Option.{option_and_then}
-use Rattle.scope_rules.specs.History.{History}
-use Rattle.scope_rules.specs.Scopes.{closing_at}
-use Rattle.scope_rules.specs.Search.{earliest}
-use Rattle.run_picture.specs.declared.landmarks.Firsts.{Firsts}
-use Rattle.run_picture.specs.declared.landmarks.Landmark.TheVariants as landmark
+use Rattle.run_picture.specs.Words.{ℕ, ◌+◌, ◌<◌, ◌≡◌, Firsts, History, Landmark, None, Option, Some, closing_at, earliest, first_place, get_or, if◌then◌else◌, length, min, option_and_then, suc, zero}
 use Rattle.run_picture.specs.Arounds.{own_around}
-use Rattle.run_picture.specs.Landmarks.{first_place}
 
 -- the place i, if a close that covers scope s begins there
 abbrev pub covered_at : History → ℕ → ℕ → Option ℕ
@@ -27,7 +20,7 @@ sooner (Some left) (Some right) = Some (min left right)
 -- owner had open around it
 unfoldable pub closing_within : History → ℕ → ℕ → Option ℕ
 closing_within h zero s = None
-closing_within h (suc n) s = sooner (first_place landmark.Began h.events s) (option_and_then (closing_within h n) (own_around h s))
+closing_within h (suc n) s = sooner (first_place Landmark.Began h.events s) (option_and_then (closing_within h n) (own_around h s))
 
 -- the same within all scopes around it; in a legal history it is the closing place
 abbrev pub begins_to_close : History → ℕ → Option ℕ

@@ -1,17 +1,7 @@
 -- What is drawn, as data: the text of a picture is what its figures are written as, one after the other.
-use Rattle.std.specs.Prelude.{ℕ, List, if◌then◌else◌}
-use Rattle.run_picture.specs.declared.captions.Label.{Label}
-use Rattle.run_picture.specs.declared.marks.ShownMark.{ShownMark}
-use Rattle.run_picture.specs.declared.strokes.Bar.{Bar}
-use Rattle.run_picture.specs.declared.strokes.Reach.{Reach}
-use Rattle.run_picture.specs.declared.strokes.Tick.{Tick}
-use Rattle.run_picture.specs.Captions.{label_text}
-use Rattle.run_picture.specs.Marks.{mark_text}
+use Rattle.run_picture.specs.Words.{ℕ, Bar, Label, List, Reach, ShownMark, Tick, View, if◌then◌else◌}
+use Rattle.run_picture.specs.{Captions.label_text, Marks.mark_text, Parts.written, Strokes.bar_text, Strokes.reach_text, Strokes.tick_text, View.shows}
 pub use Rattle.run_picture.specs.Parts.{Parts, Blank, One, Both, Everywhere, all, count_in}
-use Rattle.run_picture.specs.Parts.{written}
-use Rattle.run_picture.specs.Strokes.{bar_text, reach_text, tick_text}
-use Rattle.run_picture.specs.View.{shows}
-use Rattle.run_picture.specs.declared.view.View.{View}
 
 pub data Figure : Type 0 where
   ALabel : Label → Figure

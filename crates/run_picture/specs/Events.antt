@@ -1,31 +1,23 @@
 -- What an event draws in the row of the scope that it names.
-use Rattle.std.specs.Prelude.{ℕ, nat_le, Option, None, Some, length, slice_get}
-use Rattle.std.specs.Option.{option_and_then, option_map_or}
-use Rattle.scope_rules.specs.declared.types.events.Event.{Event}
-use Rattle.scope_rules.specs.declared.types.events.Event.TheVariants as event
-use Rattle.scope_rules.specs.History.{History, tick_of}
-use Rattle.run_picture.specs.Sheet.{Sheet}
-use Rattle.run_picture.specs.declared.marks.Mark.{Mark}
-use Rattle.run_picture.specs.declared.marks.Mark.TheVariants.{Joined, Closing, Closed, Moved}
-use Rattle.run_picture.specs.Chart.{drawn_rows}
-use Rattle.run_picture.specs.Drawing.{Drawing, Blank, One, ATick, in_view, mark}
-use Rattle.run_picture.specs.Sites.{mark_at, scope_row, x_in}
-use Rattle.run_picture.specs.Spots.{row_y}
+use Rattle.run_picture.specs.Words.{ℕ, Closed, Event, History, Joined, Mark, Moved, None, Option, Some, length, nat_le, option_and_then, option_map_or, slice_get, tick_of}
+use Rattle.run_picture.specs.Drawing.{ATick, Blank, Drawing, One, in_view, mark}
+use Rattle.run_picture.specs.{Chart.drawn_rows, Sheet.Sheet, Sites.mark_at, Sites.scope_row, Sites.x_in, Spots.row_y}
+use Rattle.run_picture.specs.declared.marks.Mark.TheVariants.{Closing}
 
 -- the scope that the event leaves a mark at; a cancel draws by other rules, and a task's events are in its row
 abbrev pub event_scope : Event → Option ℕ
-event_scope (event.Move scope deadline) = Some scope
-event_scope (event.Join actor scope) = Some scope
-event_scope (event.BeginClose actor scope) = Some scope
-event_scope (event.EndClose actor scope) = Some scope
+event_scope (Event.Move scope deadline) = Some scope
+event_scope (Event.Join actor scope) = Some scope
+event_scope (Event.BeginClose actor scope) = Some scope
+event_scope (Event.EndClose actor scope) = Some scope
 event_scope _ = None
 
 -- the mark that the event leaves at a scope
 abbrev pub event_mark : Event → Option Mark
-event_mark (event.Move scope deadline) = Some (Moved scope deadline)
-event_mark (event.Join actor scope) = Some (Joined scope)
-event_mark (event.BeginClose actor scope) = Some (Closing scope)
-event_mark (event.EndClose actor scope) = Some (Closed scope)
+event_mark (Event.Move scope deadline) = Some (Moved scope deadline)
+event_mark (Event.Join actor scope) = Some (Joined scope)
+event_mark (Event.BeginClose actor scope) = Some (Closing scope)
+event_mark (Event.EndClose actor scope) = Some (Closed scope)
 event_mark _ = None
 
 -- the mark in the row of scope s, if it has one

@@ -1,10 +1,7 @@
 -- What stands around the rows: the picture's head and its foot.
-use Rattle.std.specs.Prelude.{ℕ, ◌+◌, ◌*◌, ◌/◌, Bool, true, false, List, ◌++◌, codes}
-use Rattle.std.specs.Fmt.{decimal}
-use Rattle.run_picture.specs.declared.frame.Frame.{Frame}
-use Rattle.run_picture.specs.Spots.{row_y}
-use Rattle.run_picture.specs.View.{high, natural_width, page_width}
-use Rattle.run_picture.specs.Pieces.{svg_begin, light, dark, end_shapes, scope_shapes, line_legend, mark_legend, cancel_legend}
+use Rattle.run_picture.specs.Words.{ℕ, ◌*◌, ◌++◌, ◌+◌, ◌/◌, Bool, Frame, List, codes, decimal, false, true}
+use Rattle.run_picture.specs.Pieces.{cancel_legend, dark, end_shapes, light, line_legend, mark_legend, scope_shapes, svg_begin}
+use Rattle.run_picture.specs.{Spots.row_y, View.high, View.natural_width, View.page_width}
 
 -- how high the picture is before it is scaled to the page
 abbrev pub tall : ℕ → ℕ

@@ -1,37 +1,9 @@
 -- What a row draws: a task, a scope, or a closed scope with all that lies in it.
-use Rattle.std.specs.Prelude.{ℕ, ◌+◌, ◌*◌, min, nat_lt, Bool, true, false, Option, None, Some, if◌then◌else◌}
-use Rattle.std.specs.Option.{option_map_or, option_or}
-use Rattle.scope_checks.specs.Queries.{cancellation}
-use Rattle.scope_rules.specs.declared.types.answers.State.{State}
-use Rattle.scope_rules.specs.declared.types.answers.State.TheVariants as state
-use Rattle.scope_rules.specs.declared.types.records.Forking.{Forking}
-use Rattle.scope_rules.specs.declared.types.records.Opening.{Opening}
-use Rattle.scope_rules.specs.Cancels.{cancelled_before}
-use Rattle.scope_rules.specs.History.{History, opening, forking}
-use Rattle.scope_rules.specs.Tasks.{state}
-use Rattle.run_picture.specs.declared.captions.Fate.{Fate}
-use Rattle.run_picture.specs.declared.captions.Fate.TheVariants as fate
-use Rattle.run_picture.specs.declared.captions.Label.{Label}
-use Rattle.run_picture.specs.declared.captions.Subject.{Subject}
-use Rattle.run_picture.specs.declared.captions.Subject.TheVariants as subject
-use Rattle.run_picture.specs.Sheet.{Sheet}
-use Rattle.run_picture.specs.declared.landmarks.Landmark.TheVariants as landmark
-use Rattle.run_picture.specs.declared.marks.Mark.{Mark}
-use Rattle.run_picture.specs.declared.marks.Mark.TheVariants.{Ended, Never}
-use Rattle.run_picture.specs.declared.rows.Folded.{Folded}
-use Rattle.run_picture.specs.declared.rows.Node.{Node}
-use Rattle.run_picture.specs.declared.rows.Node.TheVariants as node
-use Rattle.run_picture.specs.declared.rows.Row.{Row}
-use Rattle.run_picture.specs.declared.strokes.Bar.{Bar}
-use Rattle.run_picture.specs.declared.strokes.Shade.{Shade}
-use Rattle.run_picture.specs.declared.strokes.Shade.TheVariants as shade
-use Rattle.run_picture.specs.Cancels.{is_accident}
-use Rattle.run_picture.specs.Closings.{begins_to_close}
-use Rattle.run_picture.specs.Drawing.{Drawing, Blank, Both, bar, in_view, label, mark}
-use Rattle.run_picture.specs.Landmarks.{first_place}
-use Rattle.run_picture.specs.Rows.{node_of}
-use Rattle.run_picture.specs.Sites.{closed_place, end_x, mark_at, span_in, x_in}
-use Rattle.run_picture.specs.Spots.{row_y}
+use Rattle.run_picture.specs.Words.{ℕ, ◌*◌, ◌+◌, Bar, Bool, Ended, Fate, Folded, Forking, History, Label, Landmark, Mark, Node, None, Opening, Option, Row, Shade, Some, State, Subject, cancellation}
+use Rattle.run_picture.specs.Words.{cancelled_before, false, first_place, forking, if◌then◌else◌, min, nat_lt, opening, option_map_or, option_or, state, true}
+use Rattle.run_picture.specs.Drawing.{Blank, Both, Drawing, bar, in_view, label, mark}
+use Rattle.run_picture.specs.{Cancels.is_accident, Closings.begins_to_close, Rows.node_of, Sheet.Sheet, Sites.closed_place, Sites.end_x, Sites.mark_at, Sites.span_in, Sites.x_in, Spots.row_y}
+use Rattle.run_picture.specs.declared.marks.Mark.TheVariants.{Never}
 
 -- a bar from the one place to the other, if it ends, or else to the right edge
 abbrev pub bar_in : History → Sheet → ℕ → Subject → ℕ → Option ℕ → Shade → Fate → Bar
@@ -42,30 +14,30 @@ abbrev pub label_in : ℕ → ℕ → Subject → Fate → Label
 label_in depth y subject fate = record { x = 8 + 10 * min depth 12; y = min (y + 4) 18446744073709551615; subject = subject; fate = fate }
 
 abbrev pub fork_of : ℕ → Forking → Subject
-fork_of k f = subject.Task (record { task = k; name = f.label.name; scope = f.scope })
+fork_of k f = Subject.Task (record { task = k; name = f.label.name; scope = f.scope })
 
 abbrev pub scope_of : ℕ → Opening → Subject
-scope_of s o = subject.Scope (record { scope = s; owner = o.actor; policy = o.policy; options = o.options })
+scope_of s o = Subject.Scope (record { scope = s; owner = o.actor; policy = o.policy; options = o.options })
 
 -- where task k got its thread, and where it ended or was rejected
 abbrev pub started : History → ℕ → Option ℕ
-started h k = first_place landmark.Started h.events k
+started h k = first_place Landmark.Started h.events k
 
 abbrev pub ended : History → ℕ → Option ℕ
-ended h k = first_place landmark.Ended h.events k
+ended h k = first_place Landmark.Ended h.events k
 
 abbrev pub end_shade : State → Shade
-end_shade (state.Success value) = shade.Done
-end_shade (state.Failed fault) = shade.Failed
-end_shade state.Unavailable = shade.Lost
+end_shade (State.Success value) = Shade.Done
+end_shade (State.Failed fault) = Shade.Failed
+end_shade State.Unavailable = Shade.Lost
 
 abbrev pub running_shade : Option ℕ → State → Shade
 running_shade (Some place) state = end_shade state
-running_shade None state = shade.Running
+running_shade None state = Shade.Running
 
 abbrev pub running_fate : Option ℕ → State → Fate
-running_fate (Some place) state = fate.Ended state
-running_fate None state = fate.Runs
+running_fate (Some place) state = Fate.Ended state
+running_fate None state = Fate.Runs
 
 -- the mark at the end of task k, which got its thread or not
 abbrev pub end_mark : ℕ → Option ℕ → State → Mark
@@ -82,7 +54,7 @@ end_figure h d y k = option_map_or (λ at. in_view d.view at (mark (mark_at h d 
 
 -- it waits for its thread until it starts, or ends; and what comes then
 abbrev pub life_drawn : History → Sheet → ℕ → ℕ → Forking → Drawing
-life_drawn h d y k f = Both (bar (bar_in h d y (fork_of k f) f.place (option_or (started h k) (ended h k)) shade.Waiting fate.Waits)) (Both (running_bar h d y k f) (end_figure h d y k))
+life_drawn h d y k f = Both (bar (bar_in h d y (fork_of k f) f.place (option_or (started h k) (ended h k)) Shade.Waiting Fate.Waits)) (Both (running_bar h d y k f) (end_figure h d y k))
 
 -- task k never starts if its scope was cancelled before the fork, where its mark stands
 unfoldable pub fork_drawn : History → Sheet → ℕ → ℕ → Forking → Drawing
@@ -90,8 +62,8 @@ fork_drawn h d y k f = if cancelled_before h f.scope f.place then in_view d.view
 
 -- what the label of a task's row says beside the task: how many more ended like it, if they lie in the row
 abbrev pub task_fate : Option Folded → Fate
-task_fate (Some f) = if nat_lt 0 f.tasks then fate.More f else fate.Open
-task_fate None = fate.Open
+task_fate (Some f) = if nat_lt 0 f.tasks then Fate.More f else Fate.Open
+task_fate None = Fate.Open
 
 -- the row of task k
 abbrev pub forked_lane : History → Sheet → ℕ → ℕ → ℕ → Option Folded → Forking → Drawing
@@ -102,34 +74,34 @@ task_lane h d row depth k folded = option_map_or (forked_lane h d row depth k fo
 
 -- a scope that was closed is distinguished from one that is open still
 abbrev pub band_shade : Option ℕ → Shade
-band_shade (Some place) = shade.Shut
-band_shade None = shade.Open
+band_shade (Some place) = Shade.Shut
+band_shade None = Shade.Open
 
 abbrev pub folded_shade : Folded → Shade
-folded_shade f = if nat_lt 0 f.failed then shade.Fallen else shade.Folded
+folded_shade f = if nat_lt 0 f.failed then Shade.Fallen else Shade.Folded
 
 abbrev pub accident_shade : Bool → Shade
-accident_shade true = shade.Cancelled
-accident_shade false = shade.Settled
+accident_shade true = Shade.Cancelled
+accident_shade false = Shade.Settled
 
 abbrev pub band : History → Sheet → ℕ → ℕ → Opening → Shade → Fate → Drawing
 band h d y s o shade fate = bar (bar_in h d y (scope_of s o) o.place (closed_place h s) shade fate)
 
 -- the band of scope s from where it became cancelled on, if it did
 abbrev pub cancelled_bar : History → Sheet → ℕ → ℕ → Opening → Drawing
-cancelled_bar h d y s o = option_map_or (λ c. bar (bar_in h d y (scope_of s o) c.0 (closed_place h s) (if is_accident h c.0 c.1 then shade.Cancelled else shade.Settled) (fate.Cancelled c.1))) (cancellation h s) Blank
+cancelled_bar h d y s o = option_map_or (λ c. bar (bar_in h d y (scope_of s o) c.0 (closed_place h s) (if is_accident h c.0 c.1 then Shade.Cancelled else Shade.Settled) (Fate.Cancelled c.1))) (cancellation h s) Blank
 
 -- and from where it is closing on: by its own close, or by another's that covers it
 abbrev pub closing_bar : History → Sheet → ℕ → ℕ → Opening → Drawing
-closing_bar h d y s o = option_map_or (λ at. bar (bar_in h d y (scope_of s o) at (closed_place h s) shade.Closing fate.Closing)) (begins_to_close h s) Blank
+closing_bar h d y s o = option_map_or (λ at. bar (bar_in h d y (scope_of s o) at (closed_place h s) Shade.Closing Fate.Closing)) (begins_to_close h s) Blank
 
 -- the row of scope s, which was opened so
 abbrev pub opened_lane : History → Sheet → ℕ → ℕ → ℕ → Opening → Drawing
-opened_lane h d row depth s o = Both (label (label_in depth (row_y row) (scope_of s o) fate.Open)) (Both (band h d (row_y row) s o (band_shade (closed_place h s)) fate.Open) (Both (cancelled_bar h d (row_y row) s o) (closing_bar h d (row_y row) s o)))
+opened_lane h d row depth s o = Both (label (label_in depth (row_y row) (scope_of s o) Fate.Open)) (Both (band h d (row_y row) s o (band_shade (closed_place h s)) Fate.Open) (Both (cancelled_bar h d (row_y row) s o) (closing_bar h d (row_y row) s o)))
 
 -- the row of a closed scope with all that lies in it
 abbrev pub folded_lane : History → Sheet → ℕ → ℕ → ℕ → Opening → Folded → Drawing
-folded_lane h d row depth s o f = Both (label (label_in depth (row_y row) (scope_of s o) (fate.Folded f))) (band h d (row_y row) s o (folded_shade f) (fate.Folded f))
+folded_lane h d row depth s o f = Both (label (label_in depth (row_y row) (scope_of s o) (Fate.Folded f))) (band h d (row_y row) s o (folded_shade f) (Fate.Folded f))
 
 abbrev pub lane_by : History → Sheet → ℕ → ℕ → ℕ → Option Folded → Opening → Drawing
 lane_by h d row depth s (Some f) o = folded_lane h d row depth s o f
@@ -139,8 +111,8 @@ unfoldable pub scope_lane : History → Sheet → ℕ → ℕ → ℕ → Option
 scope_lane h d row depth s folded = option_map_or (lane_by h d row depth s folded) (opening h s) Blank
 
 abbrev pub node_lane : History → Sheet → ℕ → Row → Option Node → Drawing
-node_lane h d index row (Some (node.Task k)) = task_lane h d index row.depth k row.folded
-node_lane h d index row (Some (node.Scope s)) = scope_lane h d index row.depth s row.folded
+node_lane h d index row (Some (Node.Task k)) = task_lane h d index row.depth k row.folded
+node_lane h d index row (Some (Node.Scope s)) = scope_lane h d index row.depth s row.folded
 node_lane h d index row None = Blank
 
 -- what the row with this index draws

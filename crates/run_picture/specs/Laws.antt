@@ -1,40 +1,8 @@
 -- Laws of pictures, in words that are not those of the drawing.
-use Rattle.std.specs.Prelude.{◌≡◌, ℕ, ◌+◌, ◌<◌, ◌≤◌, ◌==◌, Bool, true, false, cond, Option, None, Some, List, [], ◌∷◌, ◌++◌, All, length, count_by, sum_by}
-use Rattle.std.specs.Option.{option_map_or}
-use Rattle.scope_rules.specs.declared.types.capacity.Limits.{Limits}
-use Rattle.scope_rules.specs.declared.types.records.Forking.{Forking}
-use Rattle.scope_rules.specs.declared.types.records.Opening.{Opening}
-use Rattle.scope_rules.specs.History.{History, forking, opening}
-use Rattle.scope_rules.specs.Legal.{Legal}
-use Rattle.run_picture.specs.declared.forest.Placed.{Placed}
-use Rattle.run_picture.specs.declared.rows.Class.{Class}
-use Rattle.run_picture.specs.declared.rows.Class.TheVariants as class
-use Rattle.run_picture.specs.declared.rows.Folded.{Folded}
-use Rattle.run_picture.specs.declared.rows.Row.{Row}
-use Rattle.run_picture.specs.Chart.{drawn_rows, placed_rows}
-use Rattle.run_picture.specs.Nodes.{node_count, scope_node, task_node}
-use Rattle.run_picture.specs.Rows.{class_of, is_done, rows_of}
-use Rattle.run_picture.specs.Seen.{task_end}
-use Rattle.run_picture.specs.Sheet.{Sheet}
-use Rattle.run_picture.specs.Sites.{closed_place}
-use Rattle.run_picture.specs.View.{meets}
-
--- the node is a task, and one that failed
-abbrev pub is_task : Class → Bool
-is_task (class.Task failed ended) = true
-is_task (class.Scope closed) = false
-
-abbrev pub is_failure : Class → Bool
-is_failure (class.Task failed ended) = failed
-is_failure (class.Scope closed) = false
-
--- how many tasks a row stands for: itself, if it is one, and those that lie in it
-abbrev pub row_tasks : History → Row → ℕ
-row_tasks h r = cond (is_task (class_of h r.node)) 1 0 + option_map_or (λ f. f.tasks) r.folded 0
-
--- the same of tasks that failed
-abbrev pub row_failures : History → Row → ℕ
-row_failures h r = cond (is_failure (class_of h r.node)) 1 0 + option_map_or (λ f. f.failed) r.folded 0
+use Rattle.run_picture.specs.Words.{[], ℕ, ◌++◌, ◌<◌, ◌==◌, ◌||◌, ◌∷◌, ◌≡◌, ◌≤◌, Alike, All, Below, Bool, Class, Folded, Forking, History, Legal, Limits, List, None, Opening, Placed, Rest, Row, Some}
+use Rattle.run_picture.specs.Words.{cond, count_by, forking, length, nat_lt, opening, true}
+use Rattle.run_picture.specs.Rows.{class_of, is_done, is_failure, is_task, is_unended, rows_of}
+use Rattle.run_picture.specs.{Chart.drawn_rows, Chart.placed_rows, Nodes.node_count, Nodes.scope_node, Nodes.task_node, Seen.task_end, Sheet.Sheet, Sites.closed_place, View.meets}
 
 -- how many rows begin with task k, and with scope s
 abbrev pub lanes_of : History → Sheet → ℕ → ℕ
@@ -42,12 +10,6 @@ lanes_of h d k = count_by (λ r. r.node == task_node h k) (drawn_rows h d)
 
 abbrev pub bands_of : History → Sheet → ℕ → ℕ
 bands_of h d s = count_by (λ r. r.node == scope_node h s) (drawn_rows h d)
-
--- the rows lose nothing: together they stand for as many tasks, and as many failed ones, as there are among the
--- nodes, folded or not
-pub record LosesNothing (h : History) (rows : List Row) (placed : List Placed) : Type 0 where
-  pub tasks : sum_by (row_tasks h) rows ≡ count_by (λ p. is_task (class_of h p.node)) placed
-  pub failures : sum_by (row_failures h) rows ≡ count_by (λ p. is_failure (class_of h p.node)) placed
 
 -- if nothing is folded, each task that is in view has exactly one row, and no other has one
 abbrev pub EachTaskHasOneLane : Type 0
@@ -66,8 +28,9 @@ abbrev pub EachIsPlacedOnce : Type 0
 EachIsPlacedOnce = (L : Limits) (h : History) (n : ℕ) → Legal L h → n < node_count h → times_placed h n ≡ 1
 
 -- the row stands for the nodes: it is begun by the first, and the others do not lie higher. A row that is not folded has no
--- others. A folded one counts the tasks among the others, and those that failed. It is a closed scope with what lies below
--- it, or begins with a task that has ended, and all in it has ended or is closed.
+-- others. A folded one counts the tasks among the others, those that failed, and those that have not ended. It is a closed
+-- scope with what lies below it; or begins with a task that has ended, and all in it has ended or is closed; or begins with a
+-- task, and all in it are tasks or lie lower.
 pub record IsFoldOf (h : History) (r : Row) (first : Placed) (inside : List Placed) : Type 0 where
   pub node : r.node ≡ first.node
   pub depth : r.depth ≡ first.depth
@@ -75,8 +38,10 @@ pub record IsFoldOf (h : History) (r : Row) (first : Placed) (inside : List Plac
   pub alone : r.folded ≡ None → inside ≡ []
   pub tasks : (f : Folded) → r.folded ≡ Some f → f.tasks ≡ count_by (λ p. is_task (class_of h p.node)) inside
   pub failures : (f : Folded) → r.folded ≡ Some f → f.failed ≡ count_by (λ p. is_failure (class_of h p.node)) inside
-  pub closed : (f : Folded) → r.folded ≡ Some f → f.run ≡ None → (class_of h first.node ≡ class.Scope true) × All (λ p. first.depth < p.depth) inside
-  pub ended : (f : Folded) (failed : Bool) → r.folded ≡ Some f → f.run ≡ Some failed → (class_of h first.node ≡ class.Task failed true) × All (λ p. is_done (class_of h p.node) ≡ true) inside
+  pub unended : (f : Folded) → r.folded ≡ Some f → f.unended ≡ count_by (λ p. is_unended (class_of h p.node)) inside
+  pub closed : (f : Folded) → r.folded ≡ Some f → f.fold ≡ Below → (class_of h first.node ≡ Class.Scope true) × All (λ p. first.depth < p.depth) inside
+  pub ended : (f : Folded) (failed : Bool) → r.folded ≡ Some f → f.fold ≡ Alike failed → (class_of h first.node ≡ Class.Task failed true) × All (λ p. is_done (class_of h p.node) ≡ true) inside
+  pub rest : (f : Folded) → r.folded ≡ Some f → f.fold ≡ Rest → (is_task (class_of h first.node) ≡ true) × All (λ p. (nat_lt first.depth p.depth || is_task (class_of h p.node)) ≡ true) inside
 
 -- the rows stand for the nodes, one stretch of them after the other
 pub data StandFor (h : History) : List Row → List Placed → Type 0 where

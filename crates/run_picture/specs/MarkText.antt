@@ -1,16 +1,11 @@
 -- What marks and bars say of ends and cancels.
-use Rattle.std.specs.Prelude.{ℕ, List, ◌++◌, Option, None, Some, codes}
-use Rattle.std.specs.Fmt.{decimal}
-use Rattle.scope_rules.specs.declared.types.answers.Cause.{Cause}
-use Rattle.scope_rules.specs.declared.types.answers.State.{State}
-use Rattle.scope_rules.specs.declared.types.answers.State.TheVariants as state
-use Rattle.scope_rules.specs.Texts.{fault_text, kind_word, value_text}
+use Rattle.run_picture.specs.Words.{ℕ, ◌++◌, Cause, List, None, Option, Some, State, codes, decimal, fault_text, kind_word, value_text}
 
 -- how a task ended, by what can be read of it
 abbrev pub ended_text : State → List ℕ
-ended_text state.Unavailable = codes " ended, unavailable"
-ended_text (state.Success value) = codes " succeeded with " ++ value_text value
-ended_text (state.Failed fault) = codes " failed with " ++ fault_text fault
+ended_text State.Unavailable = codes " ended, unavailable"
+ended_text (State.Success value) = codes " succeeded with " ++ value_text value
+ended_text (State.Failed fault) = codes " failed with " ++ fault_text fault
 
 -- the deadline that a scope has now
 abbrev pub moved_text : Option ℕ → List ℕ

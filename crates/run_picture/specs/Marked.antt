@@ -1,43 +1,18 @@
 -- Laws of the marks of a picture, in the words of the rules.
-use Rattle.std.specs.Prelude.{◌≡◌, ℕ, ◌+◌, ◌<◌, ◌==◌, ◌&&◌, Bool, true, false, cond, Option, Some, slice_get, unwrap_or}
-use Rattle.scope_rules.specs.declared.types.answers.Cause.{Cause}
-use Rattle.scope_rules.specs.declared.types.answers.Stage.TheVariants.{Finished, Never}
-use Rattle.scope_rules.specs.declared.types.capacity.Limits.{Limits}
-use Rattle.scope_rules.specs.declared.types.events.Event.{Event}
-use Rattle.scope_rules.specs.declared.types.events.Event.TheVariants as event
-use Rattle.scope_rules.specs.declared.types.records.Forking.{Forking}
-use Rattle.scope_rules.specs.declared.types.records.Opening.{Opening}
-use Rattle.scope_rules.specs.Cancels.{cancelled_at, cancelled_before, cause, is_cancelled}
-use Rattle.scope_rules.specs.History.{History, before, forking, opening}
-use Rattle.scope_rules.specs.Legal.{Legal}
-use Rattle.scope_rules.specs.Scopes.{around, closed, closing}
-use Rattle.scope_rules.specs.Tasks.{is_settled, stage, state}
-use Rattle.run_picture.specs.declared.captions.Subject.{Subject}
-use Rattle.run_picture.specs.declared.captions.Subject.TheVariants as subject
-use Rattle.run_picture.specs.declared.marks.Mark.{Mark}
-use Rattle.run_picture.specs.declared.marks.Mark.TheVariants as mark
-use Rattle.run_picture.specs.declared.marks.ShownMark.{ShownMark}
-use Rattle.run_picture.specs.declared.strokes.Reach.{Reach}
-use Rattle.run_picture.specs.declared.strokes.Shade.{Shade}
-use Rattle.run_picture.specs.declared.strokes.Shade.TheVariants.{Closing}
+use Rattle.run_picture.specs.Words.{ℕ, ◌&&◌, ◌+◌, ◌<◌, ◌==◌, ◌≡◌, Bool, Cause, Closing, Event, Finished, Forking, History, Legal, Limits, Mark, Never, Opening, Reach, Shade, ShownMark, Some, Subject}
+use Rattle.run_picture.specs.Words.{around, before, cancelled_at, cancelled_before, cause, closed, closing, cond, false, forking, is_cancelled, is_settled, opening, slice_get, stage, state, true}
+use Rattle.run_picture.specs.Words.{unwrap_or}
 use Rattle.run_picture.specs.Closings.{begins_to_close, closing_place}
-use Rattle.run_picture.specs.Drawing.{Everywhere, Figure, ALabel, ABar, AMark, AReach, ATick, count_in}
-use Rattle.run_picture.specs.Lanes.{opened_lane}
-use Rattle.run_picture.specs.Laws.{lanes_of, bands_of}
-use Rattle.run_picture.specs.Picture.{figures}
-use Rattle.run_picture.specs.Seen.{task_end}
-use Rattle.run_picture.specs.Sheet.{Sheet}
-use Rattle.run_picture.specs.Sites.{number_in, scope_row, x_in}
-use Rattle.run_picture.specs.Spots.{row_y}
-use Rattle.run_picture.specs.View.{shows}
+use Rattle.run_picture.specs.Drawing.{ABar, ALabel, AMark, AReach, ATick, Everywhere, Figure, count_in}
+use Rattle.run_picture.specs.{Lanes.opened_lane, Laws.bands_of, Laws.lanes_of, Picture.figures, Seen.task_end, Sheet.Sheet, Sites.number_in, Sites.scope_row, Sites.x_in, Spots.row_y, View.shows}
 
 -- ---- which figures there are
 
 -- the mark is of an end, or of a cancel, that passes
 abbrev pub mark_of : (ℕ → Bool) → (ℕ → Bool) → Mark → Bool
-mark_of ends cancels (mark.Ended task state) = ends task
-mark_of ends cancels (mark.Never task) = ends task
-mark_of ends cancels (mark.Cancelled scope cause accident) = cancels scope
+mark_of ends cancels (Mark.Ended task state) = ends task
+mark_of ends cancels (Mark.Never task) = ends task
+mark_of ends cancels (Mark.Cancelled scope cause accident) = cancels scope
 mark_of ends cancels _ = false
 
 -- the same, or a label of what passes
@@ -56,12 +31,12 @@ abbrev pub is_number : ℕ → ℕ → Bool
 is_number n x = x == n
 
 abbrev pub is_task_subject : ℕ → Subject → Bool
-is_task_subject k (subject.Task f) = f.task == k
-is_task_subject k (subject.Scope s) = false
+is_task_subject k (Subject.Task f) = f.task == k
+is_task_subject k (Subject.Scope s) = false
 
 abbrev pub is_scope_subject : ℕ → Subject → Bool
-is_scope_subject s (subject.Task f) = false
-is_scope_subject s (subject.Scope x) = x.scope == s
+is_scope_subject s (Subject.Task f) = false
+is_scope_subject s (Subject.Scope x) = x.scope == s
 
 -- a mark that task k ended, or never starts
 abbrev pub is_end_of : ℕ → Figure → Bool
@@ -159,14 +134,14 @@ pub record HoldsAgainst (h : History) (s source i : ℕ) : Type 0 where
 
 -- what the mark says is so, in the row where it stands, and by the event at which it stands
 abbrev pub IsSo : History → Sheet → ShownMark → Mark → Type 0
-IsSo h d m (mark.Ended k st) = (stage h k ≡ Finished) × (st ≡ state h k)
-IsSo h d m (mark.Never k) = stage h k ≡ Never
-IsSo h d m (mark.Joined s) = (i a : ℕ) × (slice_get h.events i ≡ Some (event.Join a s)) × StandsAt h d m s i
-IsSo h d m (mark.Closing s) = (i a : ℕ) × (slice_get h.events i ≡ Some (event.BeginClose a s)) × StandsAt h d m s i
-IsSo h d m (mark.Closed s) = (i a : ℕ) × (slice_get h.events i ≡ Some (event.EndClose a s)) × StandsAt h d m s i
-IsSo h d m (mark.Moved s deadline) = (i : ℕ) × (slice_get h.events i ≡ Some (event.Move s deadline)) × StandsAt h d m s i
-IsSo h d m (mark.Cancelled s c accident) = (i : ℕ) × IsCancelledAt h s i c × StandsAt h d m s i
-IsSo h d m (mark.Held s source) = (i : ℕ) × HoldsAgainst h s source i × StandsAt h d m s i
+IsSo h d m (Mark.Ended k st) = (stage h k ≡ Finished) × (st ≡ state h k)
+IsSo h d m (Mark.Never k) = stage h k ≡ Never
+IsSo h d m (Mark.Joined s) = (i a : ℕ) × (slice_get h.events i ≡ Some (Event.Join a s)) × StandsAt h d m s i
+IsSo h d m (Mark.Closing s) = (i a : ℕ) × (slice_get h.events i ≡ Some (Event.BeginClose a s)) × StandsAt h d m s i
+IsSo h d m (Mark.Closed s) = (i a : ℕ) × (slice_get h.events i ≡ Some (Event.EndClose a s)) × StandsAt h d m s i
+IsSo h d m (Mark.Moved s deadline) = (i : ℕ) × (slice_get h.events i ≡ Some (Event.Move s deadline)) × StandsAt h d m s i
+IsSo h d m (Mark.Cancelled s c accident) = (i : ℕ) × IsCancelledAt h s i c × StandsAt h d m s i
+IsSo h d m (Mark.Held s source) = (i : ℕ) × HoldsAgainst h s source i × StandsAt h d m s i
 
 -- a line of a cancel goes to the row of the scope that it reached, from the row of the scope whose own cancel it was,
 -- if that has one

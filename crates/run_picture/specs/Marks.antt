@@ -1,14 +1,6 @@
 -- The marks of a picture: what happened at an event.
-use Rattle.std.specs.Prelude.{ℕ, ◌==◌, Bool, true, false, List, ◌++◌, codes, if◌then◌else◌}
-use Rattle.std.specs.Fmt.{decimal}
-use Rattle.scope_rules.specs.declared.types.answers.Cause.{Cause}
-use Rattle.scope_rules.specs.Texts.{state_word}
-use Rattle.run_picture.specs.declared.spots.Spot.{Spot}
-use Rattle.run_picture.specs.declared.marks.Mark.{Mark}
-use Rattle.run_picture.specs.declared.marks.Mark.TheVariants as mark
-use Rattle.run_picture.specs.declared.marks.ShownMark.{ShownMark}
-use Rattle.run_picture.specs.Captions.{unit_end, unit_word}
-use Rattle.run_picture.specs.MarkText.{cause_text, ended_text, held_text, moved_text}
+use Rattle.run_picture.specs.Words.{ℕ, ◌++◌, ◌==◌, Bool, Cause, List, Mark, ShownMark, Spot, codes, decimal, false, if◌then◌else◌, state_word, true}
+use Rattle.run_picture.specs.{Captions.unit_end, Captions.unit_word, MarkText.cause_text, MarkText.ended_text, MarkText.held_text, MarkText.moved_text}
 
 -- the mark of a cancel: of a normal end, or else of the scope's own, or of one that reached it
 abbrev pub cancel_word : ℕ → Cause → Bool → List ℕ
@@ -17,14 +9,14 @@ cancel_word s cause true = if cause.scope == s then codes "cancel" else codes "r
 
 -- which mark it is, by its name among the picture's shapes
 abbrev pub mark_word : Mark → List ℕ
-mark_word (mark.Ended task state) = state_word state
-mark_word (mark.Never task) = codes "never"
-mark_word (mark.Joined scope) = codes "joined"
-mark_word (mark.Closing scope) = codes "began"
-mark_word (mark.Closed scope) = codes "closed"
-mark_word (mark.Moved scope deadline) = codes "moved"
-mark_word (mark.Cancelled scope cause accident) = cancel_word scope cause accident
-mark_word (mark.Held scope source) = codes "shield"
+mark_word (Mark.Ended task state) = state_word state
+mark_word (Mark.Never task) = codes "never"
+mark_word (Mark.Joined scope) = codes "joined"
+mark_word (Mark.Closing scope) = codes "began"
+mark_word (Mark.Closed scope) = codes "closed"
+mark_word (Mark.Moved scope deadline) = codes "moved"
+mark_word (Mark.Cancelled scope cause accident) = cancel_word scope cause accident
+mark_word (Mark.Held scope source) = codes "shield"
 
 abbrev pub scope_text : ℕ → List ℕ
 scope_text s = codes "scope " ++ decimal s
@@ -34,14 +26,14 @@ task_text k = codes "task " ++ decimal k
 
 -- what the mark says
 abbrev pub note_text : Mark → List ℕ
-note_text (mark.Ended task state) = task_text task ++ ended_text state
-note_text (mark.Never task) = task_text task ++ codes " never starts"
-note_text (mark.Joined scope) = scope_text scope ++ codes " is joined"
-note_text (mark.Closing scope) = scope_text scope ++ codes " begins to close"
-note_text (mark.Closed scope) = scope_text scope ++ codes " is closed"
-note_text (mark.Moved scope deadline) = scope_text scope ++ moved_text deadline
-note_text (mark.Cancelled scope cause accident) = scope_text scope ++ cause_text cause
-note_text (mark.Held scope source) = scope_text scope ++ held_text source
+note_text (Mark.Ended task state) = task_text task ++ ended_text state
+note_text (Mark.Never task) = task_text task ++ codes " never starts"
+note_text (Mark.Joined scope) = scope_text scope ++ codes " is joined"
+note_text (Mark.Closing scope) = scope_text scope ++ codes " begins to close"
+note_text (Mark.Closed scope) = scope_text scope ++ codes " is closed"
+note_text (Mark.Moved scope deadline) = scope_text scope ++ moved_text deadline
+note_text (Mark.Cancelled scope cause accident) = scope_text scope ++ cause_text cause
+note_text (Mark.Held scope source) = scope_text scope ++ held_text source
 
 -- where the mark stands
 unfoldable pub at_text : Spot → List ℕ

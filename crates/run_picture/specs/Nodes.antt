@@ -1,8 +1,6 @@
 -- The tasks and the scopes since the base as nodes of one tree: first the tasks by number, then the scopes.
-use Rattle.std.specs.Prelude.{ℕ, ◌+◌, ◌-◌, ◌&&◌, nat_lt, nat_le, min, List, ◌++◌, map, if◌then◌else◌}
-use Rattle.std.specs.Option.{option_map_or}
-use Rattle.std.specs.List.{range_with_len}
-use Rattle.scope_rules.specs.History.{History, forked_count, opened_count, forking, opening, scopes, tasks}
+use Rattle.run_picture.specs.Words.{ℕ, ◌&&◌, ◌++◌, ◌+◌, ◌-◌, History, List, forked_count, forking, if◌then◌else◌, map, min, nat_le, nat_lt, opened_count, opening, option_map_or, range_with_len}
+use Rattle.run_picture.specs.Words.{scopes, tasks}
 use Rattle.run_picture.specs.Arounds.{own_around}
 
 abbrev pub node_count : History → ℕ

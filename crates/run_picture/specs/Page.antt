@@ -1,34 +1,7 @@
 -- The page of a run: what stands around it, and between them its columns as text.
-use Rattle.std.specs.Prelude.{◌≡◌, ℕ, ◌+◌, ◌-◌, ◌==◌, Option, None, Some, List, [], ◌∷◌, ◌++◌, cond, codes, length, slice_get, get_or, if◌then◌else◌}
-use Rattle.std.specs.Option.{option_map_or}
-use Rattle.scope_log.specs.LogText.{joiner_text}
-use Rattle.scope_rules.specs.declared.types.answers.Cause.{Cause}
-use Rattle.scope_rules.specs.declared.types.answers.CauseKind.{CauseKind}
-use Rattle.scope_rules.specs.declared.types.answers.CauseKind.TheVariants as kind
-use Rattle.scope_rules.specs.declared.types.answers.Stage.{Stage}
-use Rattle.scope_rules.specs.declared.types.answers.Stage.TheVariants as stage
-use Rattle.scope_rules.specs.declared.types.answers.State.{State}
-use Rattle.scope_rules.specs.declared.types.answers.State.TheVariants as state
-use Rattle.scope_rules.specs.declared.types.events.Event.{Event}
-use Rattle.scope_rules.specs.declared.types.events.Event.TheVariants as event
-use Rattle.scope_rules.specs.declared.types.events.Expiry.{Expiry}
-use Rattle.scope_rules.specs.declared.types.events.Expiry.TheVariants as expiry
-use Rattle.scope_rules.specs.declared.types.events.Options.{Options}
-use Rattle.scope_rules.specs.declared.types.values.Value.{Value}
-use Rattle.scope_rules.specs.Texts.{value_text}
-use Rattle.scope_rules.specs.History.{History, tick_of}
-use Rattle.run_picture.specs.declared.columns.Columns.{Columns}
-use Rattle.run_picture.specs.declared.columns.ScopeRow.{ScopeRow}
-use Rattle.run_picture.specs.declared.columns.TaskRow.{TaskRow}
-use Rattle.run_picture.specs.declared.page_rows.Before.{Before}
-use Rattle.run_picture.specs.declared.page_drawing.TheConstants.{PAGE_DRAWING}
-use Rattle.run_picture.specs.declared.page_head.TheConstants.{PAGE_HEAD}
-use Rattle.run_picture.specs.declared.page_model.TheConstants.{PAGE_MODEL}
-use Rattle.run_picture.specs.declared.words.Wanted.TheVariants as wanted
-use Rattle.run_picture.specs.declared.words.Words.{Words}
-use Rattle.run_picture.specs.Columns.{AreColumnsOf}
-use Rattle.run_picture.specs.Digits.{each_text, far, number_text, numbers_text, small_place, step}
-use Rattle.run_picture.specs.Words.{AreWordsOf}
+use Rattle.run_picture.specs.Words.{[], ℕ, ◌++◌, ◌+◌, ◌-◌, ◌==◌, ◌∷◌, ◌≡◌, Before, Cause, CauseKind, Columns, Event, Expiry, History, List, None, Option, Options, PAGE_DRAWING, PAGE_HEAD, PAGE_MODEL}
+use Rattle.run_picture.specs.Words.{ScopeRow, Some, Stage, State, TaskRow, Value, Wanted, Words, codes, cond, get_or, if◌then◌else◌, joiner_text, length, option_map_or, slice_get, tick_of, value_text}
+use Rattle.run_picture.specs.{Columns.AreColumnsOf, Digits.each_text, Digits.far, Digits.number_text, Digits.numbers_text, Digits.small_place, Digits.step, PageWords.AreWordsOf}
 
 -- what stands before index i
 abbrev pub one_before : {A : Type 0} → List A → ℕ → Option A
@@ -69,15 +42,15 @@ times_text times = each_text (time_text times) (length times)
 
 -- how a task stands
 abbrev pub ended_how : State → ℕ
-ended_how state.Unavailable = 3
-ended_how (state.Success v) = 4
-ended_how (state.Failed fault) = 5
+ended_how State.Unavailable = 3
+ended_how (State.Success v) = 4
+ended_how (State.Failed fault) = 5
 
 abbrev pub how : Stage → State → ℕ
-how stage.Never read = 0
-how stage.Waiting read = 1
-how stage.Running read = 2
-how stage.Finished read = ended_how read
+how Stage.Never read = 0
+how Stage.Waiting read = 1
+how Stage.Running read = 2
+how Stage.Finished read = ended_how read
 
 abbrev pub nothing_before : Before
 nothing_before = record { first = 0; second = 0; place = 0 }
@@ -99,17 +72,17 @@ tasks_text rows names values = each_text (task_text rows names values) (length r
 -- ---- scopes
 
 abbrev pub moves_on : Expiry → ℕ
-moves_on expiry.Fail = 0
-moves_on expiry.MoveOn = 2
+moves_on Expiry.Fail = 0
+moves_on Expiry.MoveOn = 2
 
 abbrev pub options_number : Options → ℕ
 options_number o = cond o.shield 1 0 + moves_on o.expiry + option_map_or (λ deadline. 4) o.deadline 0
 
 abbrev pub cause_number : CauseKind → ℕ
-cause_number kind.Call = 0
-cause_number kind.Close = 1
-cause_number kind.Joiner = 2
-cause_number kind.Deadline = 3
+cause_number CauseKind.Call = 0
+cause_number CauseKind.Close = 1
+cause_number CauseKind.Joiner = 2
+cause_number CauseKind.Deadline = 3
 
 abbrev pub scope_before : Option ScopeRow → Before
 scope_before None = nothing_before
@@ -142,7 +115,7 @@ scopes_text rows before = each_text (scope_text rows before) (length rows)
 
 -- the scope that gets a new deadline, or none from now on
 abbrev pub moved : Event → Option (ℕ × Option ℕ)
-moved (event.Move scope deadline) = Some (scope, deadline)
+moved (Event.Move scope deadline) = Some (scope, deadline)
 moved _ = None
 
 abbrev pub moved_numbers : ℕ → ℕ → Option ℕ → List ℕ
@@ -178,7 +151,7 @@ pub record IsPageOf (text : List ℕ) (h : History) (times : List ℕ) : Type 0 
   pub columns : Columns
   pub are : AreColumnsOf columns h
   pub names : Words
-  pub named : AreWordsOf names wanted.Name columns.tasks.items
+  pub named : AreWordsOf names Wanted.Name columns.tasks.items
   pub values : Words
-  pub valued : AreWordsOf values wanted.Value columns.tasks.items
+  pub valued : AreWordsOf values Wanted.Value columns.tasks.items
   pub is : text ≡ PAGE_HEAD.now ++ (columns_text columns names values h.events times h.base.moment ++ (PAGE_MODEL.now ++ PAGE_DRAWING.now))

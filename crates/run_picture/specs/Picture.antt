@@ -1,19 +1,7 @@
 -- The picture of a run.
-use Rattle.std.specs.Prelude.{ℕ, ◌==◌, not, List, [], ◌++◌, length, slice_get, if◌then◌else◌}
-use Rattle.std.specs.List.{range_with_len}
-use Rattle.std.specs.Option.{option_map_or}
-use Rattle.scope_rules.specs.History.{History, moment, scope_numbers}
-use Rattle.run_picture.specs.Axis.{axis_text}
-use Rattle.run_picture.specs.Cancels.{cancel_figures}
-use Rattle.run_picture.specs.Chart.{drawn_rows}
-use Rattle.run_picture.specs.Drawing.{Drawing, Blank, Both, all, shown}
-use Rattle.run_picture.specs.Events.{event_figures, moment_line}
-use Rattle.run_picture.specs.Focus.{focused}
-use Rattle.run_picture.specs.Frame.{head_text, foot_text}
-use Rattle.run_picture.specs.Lanes.{row_drawn}
-use Rattle.run_picture.specs.Sheet.{Sheet}
-use Rattle.run_picture.specs.Shields.{shield_figures}
-use Rattle.run_picture.specs.View.{time_at, whole}
+use Rattle.run_picture.specs.Words.{[], ℕ, ◌++◌, ◌==◌, History, List, if◌then◌else◌, length, moment, not, option_map_or, range_with_len, scope_numbers, slice_get}
+use Rattle.run_picture.specs.{Axis.axis_text, Cancels.cancel_figures, Chart.drawn_rows, Drawing.Blank, Drawing.Both, Drawing.Drawing, Drawing.all, Drawing.shown, Events.event_figures}
+use Rattle.run_picture.specs.{Events.moment_line, Focus.focused, Frame.foot_text, Frame.head_text, Lanes.row_drawn, Sheet.Sheet, Shields.shield_figures, View.time_at, View.whole}
 
 -- the places of the events
 abbrev pub places : History → List ℕ

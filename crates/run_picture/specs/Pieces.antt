@@ -1,5 +1,5 @@
 -- The texts that every picture has: its style, its shapes and its legend.
-use Rattle.std.specs.Prelude.{ℕ, List, codes}
+use Rattle.run_picture.specs.Words.{ℕ, List, codes}
 
 -- how a picture begins, before its size
 unfoldable pub svg_begin : List ℕ

@@ -1,7 +1,5 @@
 -- What a picture is drawn by, beside the history.
-use Rattle.std.specs.Prelude.{ℕ, List}
-use Rattle.run_picture.specs.declared.chart.Drawn.{Drawn}
-use Rattle.run_picture.specs.declared.view.View.{View}
+use Rattle.run_picture.specs.Words.{ℕ, Drawn, List, View}
 
 -- the view, and by event the line of the script and the time, if these are known
 pub record Sheet : Type 0 where

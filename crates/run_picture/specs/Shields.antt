@@ -1,17 +1,7 @@
 -- The shields of a picture: which held off a cancel, and where.
-use Rattle.std.specs.Prelude.{ℕ, ◌+◌, ◌&&◌, Bool, not, nat_lt, Option, None, Some, if◌then◌else◌}
-use Rattle.std.specs.Option.{option_and_then, option_map_or}
-use Rattle.scope_checks.specs.Queries.{cancellation}
-use Rattle.scope_rules.specs.declared.types.answers.Cause.{Cause}
-use Rattle.scope_rules.specs.declared.types.records.Opening.{Opening}
-use Rattle.scope_rules.specs.Cancels.{cancelled_before}
-use Rattle.scope_rules.specs.History.{History, before, opening}
-use Rattle.scope_rules.specs.Scopes.{around, closed}
-use Rattle.run_picture.specs.Sheet.{Sheet}
-use Rattle.run_picture.specs.declared.marks.Mark.TheVariants.{Held}
-use Rattle.run_picture.specs.Drawing.{Drawing, Blank, in_view, mark}
-use Rattle.run_picture.specs.Sites.{mark_at, scope_row}
-use Rattle.run_picture.specs.Spots.{row_y}
+use Rattle.run_picture.specs.Words.{ℕ, ◌&&◌, ◌+◌, Bool, Cause, Held, History, None, Opening, Option, Some, around, before, cancellation, cancelled_before, closed, if◌then◌else◌, nat_lt, not, opening}
+use Rattle.run_picture.specs.Words.{option_and_then, option_map_or}
+use Rattle.run_picture.specs.{Drawing.Blank, Drawing.Drawing, Drawing.in_view, Drawing.mark, Sheet.Sheet, Sites.mark_at, Sites.scope_row, Spots.row_y}
 
 -- scope s, which was opened so, stood at the event at place i and went on: it was opened before, and was
 -- not closed before, nor cancelled by then

@@ -1,19 +1,7 @@
 -- Where in the picture something stands.
-use Rattle.std.specs.Prelude.{ℕ, ◌+◌, ◌-◌, nat_lt, not, Option, None, Some, option_map, length, slice_get, ◌==◌, if◌then◌else◌}
-use Rattle.std.specs.Option.{option_map_or}
-use Rattle.scope_rules.specs.History.{History}
-use Rattle.run_picture.specs.declared.captions.Measure.{Measure}
-use Rattle.run_picture.specs.declared.captions.Measure.TheVariants.{Events, Lines, Millis}
-use Rattle.run_picture.specs.declared.captions.Span.{Span}
-use Rattle.run_picture.specs.Sheet.{Sheet}
-use Rattle.run_picture.specs.declared.landmarks.Landmark.TheVariants as landmark
-use Rattle.run_picture.specs.declared.marks.Mark.{Mark}
-use Rattle.run_picture.specs.declared.marks.ShownMark.{ShownMark}
-use Rattle.run_picture.specs.Chart.{drawn_rows, row_of}
-use Rattle.run_picture.specs.Focus.{column_of}
-use Rattle.run_picture.specs.Landmarks.{first_place}
-use Rattle.run_picture.specs.Nodes.{node_count, scope_node}
-use Rattle.run_picture.specs.View.{time_at, x_at}
+use Rattle.run_picture.specs.Words.{ℕ, ◌+◌, ◌-◌, ◌==◌, Events, History, Landmark, Lines, Mark, Measure, Millis, None, Option, ShownMark, Some, Span, first_place, if◌then◌else◌, length, nat_lt, not}
+use Rattle.run_picture.specs.Words.{option_map, option_map_or, slice_get}
+use Rattle.run_picture.specs.{Chart.drawn_rows, Chart.row_of, Focus.column_of, Nodes.node_count, Nodes.scope_node, Sheet.Sheet, View.time_at, View.x_at}
 
 -- how far from the left the event at the place stands
 abbrev pub x_in : History → Sheet → ℕ → ℕ
@@ -49,4 +37,4 @@ scope_row h d s = if nat_lt (scope_node h s) (node_count h) then row_of (drawn_r
 
 -- where scope s was closed, if it was
 abbrev pub closed_place : History → ℕ → Option ℕ
-closed_place h s = first_place landmark.Closed h.events s
+closed_place h s = first_place Landmark.Closed h.events s

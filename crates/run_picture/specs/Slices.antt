@@ -1,21 +1,6 @@
 -- The records of a trace: a line of JSON each, behind the one before.
-use Rattle.std.specs.Prelude.{ℕ, Bool, true, false, Option, None, Some, List, ◌++◌, codes}
-use Rattle.std.specs.Fmt.{decimal}
-use Rattle.scope_rules.specs.declared.types.answers.Cause.{Cause}
-use Rattle.scope_rules.specs.declared.types.answers.State.{State}
-use Rattle.scope_rules.specs.Names.{text_of}
-use Rattle.scope_rules.specs.Texts.{kind_word, state_word}
-use Rattle.scope_log.specs.LogText.{joiner_text, options_text}
-use Rattle.run_picture.specs.declared.slices.Arrow.{Arrow}
-use Rattle.run_picture.specs.declared.slices.Instant.{Instant}
-use Rattle.run_picture.specs.declared.slices.ScopeSlice.{ScopeSlice}
-use Rattle.run_picture.specs.declared.slices.Point.{Point}
-use Rattle.run_picture.specs.declared.slices.Stretch.{Stretch}
-use Rattle.run_picture.specs.declared.slices.TaskSlice.{TaskSlice}
-use Rattle.run_picture.specs.declared.slices.Track.{Track}
-use Rattle.run_picture.specs.declared.slices.Wait.{Wait}
-use Rattle.run_picture.specs.declared.slices.Wait.TheVariants.{Still, Started, Rejected}
-use Rattle.run_picture.specs.declared.slices.WaitSlice.{WaitSlice}
+use Rattle.run_picture.specs.Words.{ℕ, ◌++◌, Arrow, Bool, Cause, Instant, List, None, Option, Point, Rejected, ScopeSlice, Some, Started, State, Still, Stretch, TaskSlice, Track, Wait, WaitSlice}
+use Rattle.run_picture.specs.Words.{codes, decimal, false, joiner_text, kind_word, options_text, state_word, text_of, true}
 
 -- the name of a task's track
 unfoldable pub track_head : ℕ → List ℕ

@@ -1,5 +1,5 @@
 -- Where things stand in a picture.
-use Rattle.std.specs.Prelude.{ℕ, ◌+◌, ◌*◌}
+use Rattle.run_picture.specs.Words.{ℕ, ◌*◌, ◌+◌}
 
 -- a row's middle, from above
 abbrev pub row_y : ℕ → ℕ

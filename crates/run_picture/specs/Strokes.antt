@@ -1,27 +1,21 @@
 -- The lines of a picture.
-use Rattle.std.specs.Prelude.{ℕ, List, [], ◌++◌, codes, if◌then◌else◌}
-use Rattle.std.specs.Fmt.{decimal}
-use Rattle.run_picture.specs.declared.strokes.Bar.{Bar}
-use Rattle.run_picture.specs.declared.strokes.Reach.{Reach}
-use Rattle.run_picture.specs.declared.strokes.Shade.{Shade}
-use Rattle.run_picture.specs.declared.strokes.Shade.TheVariants as shade
-use Rattle.run_picture.specs.declared.strokes.Tick.{Tick}
+use Rattle.run_picture.specs.Words.{[], ℕ, ◌++◌, Bar, List, Reach, Shade, Tick, codes, decimal, if◌then◌else◌}
 use Rattle.run_picture.specs.Captions.{title_text}
 
 -- what a bar shows, as the class of its line
 abbrev pub shade_word : Shade → List ℕ
-shade_word shade.Open = codes "open"
-shade_word shade.Shut = codes "shut"
-shade_word shade.Cancelled = codes "cancelled"
-shade_word shade.Settled = codes "settled"
-shade_word shade.Closing = codes "closing"
-shade_word shade.Folded = codes "folded"
-shade_word shade.Fallen = codes "fallen"
-shade_word shade.Waiting = codes "waiting"
-shade_word shade.Running = codes "running"
-shade_word shade.Done = codes "done"
-shade_word shade.Failed = codes "failed"
-shade_word shade.Lost = codes "lost"
+shade_word Shade.Open = codes "open"
+shade_word Shade.Shut = codes "shut"
+shade_word Shade.Cancelled = codes "cancelled"
+shade_word Shade.Settled = codes "settled"
+shade_word Shade.Closing = codes "closing"
+shade_word Shade.Folded = codes "folded"
+shade_word Shade.Fallen = codes "fallen"
+shade_word Shade.Waiting = codes "waiting"
+shade_word Shade.Running = codes "running"
+shade_word Shade.Done = codes "done"
+shade_word Shade.Failed = codes "failed"
+shade_word Shade.Lost = codes "lost"
 
 -- the line of a bar
 unfoldable pub bar_line : Bar → List ℕ

@@ -1,33 +1,9 @@
 -- The run as Chrome trace events, as JSON.
-use Rattle.std.specs.Prelude.{◌≡◌, ℕ, ◌-◌, ◌*◌, ◌==◌, min, not, Bool, true, false, if◌then◌else◌, is_some, unwrap_or, Option, None, Some, option_map, List, ◌++◌, codes, length}
-use Rattle.std.specs.Option.{option_map_or, option_or}
-use Rattle.scope_checks.specs.Queries.{cancellation}
-use Rattle.scope_rules.specs.declared.types.answers.Cause.{Cause}
-use Rattle.scope_rules.specs.declared.types.answers.State.{State}
-use Rattle.scope_rules.specs.declared.types.records.Forking.{Forking}
-use Rattle.scope_rules.specs.declared.types.records.Opening.{Opening}
-use Rattle.scope_rules.specs.Cancels.{cancelled_before}
-use Rattle.scope_rules.specs.History.{History, forked_count, forking, opened_count, opening, scope_numbers, task_numbers}
-use Rattle.scope_rules.specs.Tasks.{state}
-use Rattle.run_picture.specs.declared.landmarks.Landmark.TheVariants as landmark
-use Rattle.run_picture.specs.declared.slices.Arrow.{Arrow}
-use Rattle.run_picture.specs.declared.slices.Instant.{Instant}
-use Rattle.run_picture.specs.declared.slices.Point.{Point}
-use Rattle.run_picture.specs.declared.slices.ScopeSlice.{ScopeSlice}
-use Rattle.run_picture.specs.declared.slices.Stretch.{Stretch}
-use Rattle.run_picture.specs.declared.slices.TaskSlice.{TaskSlice}
-use Rattle.run_picture.specs.declared.slices.Track.{Track}
-use Rattle.run_picture.specs.declared.slices.Wait.{Wait}
-use Rattle.run_picture.specs.declared.slices.Wait.TheVariants.{Still, Started, Rejected}
-use Rattle.run_picture.specs.declared.slices.WaitSlice.{WaitSlice}
-use Rattle.run_picture.specs.declared.trace.Course.{Course}
-use Rattle.run_picture.specs.declared.trace.Traced.{Traced}
-use Rattle.run_picture.specs.Arounds.{IsNestOf}
-use Rattle.run_picture.specs.Closings.{AreClosings, begins_to_close}
-use Rattle.run_picture.specs.Landmarks.{HasFirsts, first_place}
-use Rattle.run_picture.specs.Parts.{Parts, Blank, Both, One, all, written}
+use Rattle.run_picture.specs.Words.{ℕ, ◌*◌, ◌++◌, ◌-◌, ◌==◌, ◌≡◌, Arrow, Bool, Cause, Course, Forking, HasFirsts, History, Instant, Landmark, List, None, Opening, Option, Point, Rejected, ScopeSlice}
+use Rattle.run_picture.specs.Words.{Some, Started, State, Still, Stretch, TaskSlice, Traced, Track, Wait, WaitSlice, cancellation, cancelled_before, codes, false, first_place, forked_count, forking}
+use Rattle.run_picture.specs.Words.{if◌then◌else◌, is_some, length, min, not, opened_count, opening, option_map, option_map_or, option_or, scope_numbers, state, task_numbers, true, unwrap_or}
 use Rattle.run_picture.specs.Slices.{arrow_text, closing_text, instant_text, never_text, scope_text, task_text, track_text, wait_text}
-use Rattle.run_picture.specs.View.{time_at}
+use Rattle.run_picture.specs.{Arounds.IsNestOf, Closings.AreClosings, Closings.begins_to_close, Parts.Blank, Parts.Both, Parts.One, Parts.Parts, Parts.all, Parts.written, View.time_at}
 
 pub data Record : Type 0 where
   ATrack : Track → Record
@@ -59,8 +35,8 @@ stretch_in h times track from to = record { track = track; at = micros times fro
 
 -- the course is that of the history: where tasks started and ended, and where scopes began to close and were closed
 pub record IsCourseOf (course : Course) (h : History) : Type 0 where
-  pub starts : HasFirsts course.starts landmark.Started h.events h.base.tasks (forked_count h)
-  pub ends : HasFirsts course.ends landmark.Ended h.events h.base.tasks (forked_count h)
+  pub starts : HasFirsts course.starts Landmark.Started h.events h.base.tasks (forked_count h)
+  pub ends : HasFirsts course.ends Landmark.Ended h.events h.base.tasks (forked_count h)
   pub closings : AreClosings course.closings h (opened_count h)
   pub nest : IsNestOf course.nest h
 
@@ -87,9 +63,9 @@ wait_by None None = Still
 -- any other waits from its fork up to its start, or to its end without one
 abbrev pub wait_in : History → List ℕ → ℕ → Forking → WaitSlice
 wait_in h times k f = record {
-  stretch = stretch_in h times k f.place (option_or (first_place landmark.Started h.events k) (first_place landmark.Ended h.events k));
+  stretch = stretch_in h times k f.place (option_or (first_place Landmark.Started h.events k) (first_place Landmark.Ended h.events k));
   scope = f.scope;
-  wait = wait_by (first_place landmark.Started h.events k) (first_place landmark.Ended h.events k);
+  wait = wait_by (first_place Landmark.Started h.events k) (first_place Landmark.Ended h.events k);
 }
 
 abbrev pub beginning : History → List ℕ → ℕ → Forking → Parts Record
@@ -104,7 +80,7 @@ slice_in h times k f from to = record { stretch = stretch_in h times k from to; 
 
 -- its slice, if it got its thread
 abbrev pub task_from : History → List ℕ → ℕ → Forking → Parts Record
-task_from h times k f = option_map_or (λ from. One (ATask (slice_in h times k f from (first_place landmark.Ended h.events k)))) (first_place landmark.Started h.events k) Blank
+task_from h times k f = option_map_or (λ from. One (ATask (slice_in h times k f from (first_place Landmark.Ended h.events k)))) (first_place Landmark.Started h.events k) Blank
 
 abbrev pub forked_records : History → List ℕ → ℕ → Forking → Parts Record
 forked_records h times k f = Both (One (ATrack (track_in k f))) (Both (beginning h times k f) (task_from h times k f))
@@ -117,11 +93,11 @@ task_records h times k = option_map_or (forked_records h times k) (forking h k) 
 
 abbrev pub band_in : History → List ℕ → ℕ → Opening → ScopeSlice
 band_in h times s o = record {
-  stretch = stretch_in h times o.actor o.place (first_place landmark.Closed h.events s);
+  stretch = stretch_in h times o.actor o.place (first_place Landmark.Closed h.events s);
   scope = s;
   policy = o.policy;
   options = o.options;
-  closed = is_some (first_place landmark.Closed h.events s);
+  closed = is_some (first_place Landmark.Closed h.events s);
 }
 
 abbrev pub closing_in : List ℕ → ℕ → Opening → ℕ → Point

@@ -1,32 +1,9 @@
 -- Laws of traces, in the words of the rules.
-use Rattle.std.specs.Prelude.{◌≡◌, ℕ, ◌-◌, ◌==◌, ◌||◌, Bool, true, false, cond, Option, None, Some, List, length, slice_get}
-use Rattle.scope_rules.specs.declared.types.answers.Cause.{Cause}
-use Rattle.scope_rules.specs.declared.types.answers.State.{State}
-use Rattle.scope_rules.specs.declared.types.capacity.Limits.{Limits}
-use Rattle.scope_rules.specs.declared.types.events.Event.{Event}
-use Rattle.scope_rules.specs.declared.types.events.Event.TheVariants as event
-use Rattle.scope_rules.specs.declared.types.records.Forking.{Forking}
-use Rattle.scope_rules.specs.declared.types.records.Opening.{Opening}
-use Rattle.scope_rules.specs.Cancels.{cancelled_before, is_cancelled}
-use Rattle.scope_rules.specs.History.{History, forking, opening}
-use Rattle.scope_rules.specs.Legal.{Legal}
-use Rattle.scope_rules.specs.Scopes.{closed, closing, ends}
-use Rattle.scope_rules.specs.Tasks.{finished, finishes, rejected, rejects, started, starts, state}
-use Rattle.run_picture.specs.declared.slices.Arrow.{Arrow}
-use Rattle.run_picture.specs.declared.slices.Instant.{Instant}
-use Rattle.run_picture.specs.declared.slices.Point.{Point}
-use Rattle.run_picture.specs.declared.slices.ScopeSlice.{ScopeSlice}
-use Rattle.run_picture.specs.declared.slices.Stretch.{Stretch}
-use Rattle.run_picture.specs.declared.slices.TaskSlice.{TaskSlice}
-use Rattle.run_picture.specs.declared.slices.Track.{Track}
-use Rattle.run_picture.specs.declared.slices.Wait.{Wait}
-use Rattle.run_picture.specs.declared.slices.Wait.TheVariants.{Still, Started, Rejected}
-use Rattle.run_picture.specs.declared.slices.WaitSlice.{WaitSlice}
-use Rattle.run_picture.specs.Closings.{closing_place}
-use Rattle.run_picture.specs.Marked.{IsCancelledAt}
-use Rattle.run_picture.specs.Parts.{Everywhere, count_in}
-use Rattle.run_picture.specs.Stamps.{fork_time, open_time, reading_at, start_time}
-use Rattle.run_picture.specs.Trace.{Record, ATrack, AWait, ANever, ATask, AScope, AClosing, AnInstant, AnArrow, micros, records}
+use Rattle.run_picture.specs.Words.{ℕ, ◌-◌, ◌==◌, ◌||◌, ◌≡◌, Arrow, Bool, Cause, Event, Forking, History, Instant, Legal, Limits, List, None, Opening, Option, Point, Rejected, ScopeSlice, Some}
+use Rattle.run_picture.specs.Words.{Started, State, Still, Stretch, TaskSlice, Track, Wait, WaitSlice, cancelled_before, closed, closing, cond, ends, false, finished, finishes, forking, is_cancelled}
+use Rattle.run_picture.specs.Words.{length, opening, rejected, rejects, slice_get, started, starts, state, true}
+use Rattle.run_picture.specs.Trace.{AClosing, ANever, AScope, ATask, ATrack, AWait, AnArrow, AnInstant, Record, micros, records}
+use Rattle.run_picture.specs.{Closings.closing_place, Marked.IsCancelledAt, Parts.Everywhere, Parts.count_in}
 
 -- ---- which records there are
 
@@ -124,7 +101,7 @@ pub record IsSliceOf (h : History) (times : List ℕ) (s : TaskSlice) (k : ℕ) 
   pub name : s.name ≡ forked.label.name
   pub scope : s.scope ≡ forked.scope
   pub from : ℕ
-  pub begins : slice_get h.events from ≡ Some (event.Start k)
+  pub begins : slice_get h.events from ≡ Some (Event.Start k)
   pub to : Option ℕ
   pub goes : GoesFrom h times s.stretch k from to
   pub ends : EndsBy h (λ e. rejects k e || finishes k e) (rejected h k || finished h k) to
@@ -190,17 +167,3 @@ IsSo h times (AnArrow a) = IsArrowOf h times a a.scope
 -- each record of a trace tells the truth
 abbrev pub EachRecordIsSo : Type 0
 EachRecordIsSo = (h : History) (times : List ℕ) → Everywhere (IsSo h times) (records h times)
-
--- ---- the readings of a clock
-
--- the reading of a task's start is that of the event by which this task started
-abbrev pub EachStartTimeIsItsOwn : Type 0
-EachStartTimeIsItsOwn = (h : History) (times : List ℕ) (k : ℕ) (f : Forking) → forking h k ≡ Some f → started h k ≡ true → (i : ℕ) × (slice_get h.events i ≡ Some (event.Start k)) × (start_time h times k ≡ reading_at times i)
-
--- that of its fork is that of its own fork
-abbrev pub EachForkTimeIsItsOwn : Type 0
-EachForkTimeIsItsOwn = (h : History) (times : List ℕ) (k : ℕ) (f : Forking) → forking h k ≡ Some f → fork_time h times k ≡ reading_at times f.place
-
--- and that of a scope's opening is that of its own opening
-abbrev pub EachOpenTimeIsItsOwn : Type 0
-EachOpenTimeIsItsOwn = (h : History) (times : List ℕ) (s : ℕ) (o : Opening) → opening h s ≡ Some o → open_time h times s ≡ reading_at times o.place

@@ -1,7 +1,5 @@
 -- How large a picture is, and how far from the left its events stand.
-use Rattle.std.specs.Prelude.{ℕ, ◌+◌, ◌-◌, ◌*◌, ◌/◌, ◌&&◌, max, min, nat_le, Bool, true, None, Option, List, [], ◌∷◌, length, get_or}
-use Rattle.std.specs.Option.{option_map_or}
-use Rattle.run_picture.specs.declared.view.View.{View}
+use Rattle.run_picture.specs.Words.{[], ℕ, ◌&&◌, ◌*◌, ◌+◌, ◌-◌, ◌/◌, ◌∷◌, Bool, List, None, Option, View, get_or, length, max, min, nat_le, option_map_or, true}
 
 -- the whole run, on a page 1,200 pixels wide
 abbrev pub whole : View

@@ -2,15 +2,11 @@
 //! what was. So the scopes are gone through by number: of what an actor opened before, the search begins at the
 //! latest, and goes on from a closed one to what was the innermost as that one was opened. It takes as many steps as
 //! scopes lay around one another, and no event is looked at.
-ghost use Rattle.std.specs.Prelude.{◌≡◌, ◌+◌, ◌≤◌, true, ℕ, IfOk, Some, OnOk, is_some, length, nat_eq};
+ghost use Rattle.run_picture.specs.{ℕ, ◌+◌, ◌≡◌, ◌≤◌, AreLasts, AreOwns, HasFirsts, HasOwns, IfOk, IsNestOf, IsSearched, Landmark, OnOk, Some, around, before, closed, forked_in, innermost, is_some};
+ghost use Rattle.run_picture.specs.{length, nat_eq, opened_count, opening, own_around, true};
 ghost use Rattle.std.specs.HashMap as hash;
-ghost use Rattle.scope_rules.specs.History.{before, opened_count, opening};
-ghost use Rattle.scope_rules.specs.Scopes.{around, closed, forked_in, innermost};
-ghost use Rattle.run_picture.specs.declared.landmarks.Landmark.TheVariants as landmark;
-ghost use Rattle.run_picture.specs.Arounds.{AreLasts, AreOwns, HasOwns, IsNestOf, IsSearched, own_around};
-ghost use Rattle.run_picture.specs.Landmarks.{HasFirsts};
 
-use crate::landmarks::{Firsts, Landmark, firsts_of};
+use run_times::landmarks::{Firsts, Landmark, firsts_of};
 use scope_checks::Readings;
 use scope_rules::types::records::Opening;
 use scope_rules::{Actor, Event, ScopeId};
@@ -31,7 +27,7 @@ pub(crate) fn closed_before<R: Readings>(
     scope: ScopeId,
     place: usize,
 ) -> bool
-    requires closes { HasFirsts closes.now landmark.Closed (R.history readings.now).events (R.history readings.now).base.scopes (opened_count (R.history readings.now)) }
+    requires closes { HasFirsts closes.now Landmark.Closed (R.history readings.now).events (R.history readings.now).base.scopes (opened_count (R.history readings.now)) }
     requires opened { is_some (opening (R.history readings.now) scope) ≡ true }
     requires within { place ≤ length (R.history readings.now).events }
     ensures { result ≡ closed (before (R.history readings.now) place) scope }
@@ -66,7 +62,7 @@ fn innermost_before<R: Readings>(
     opening: Opening,
     from: Option<ScopeId>,
 ) -> Option<ScopeId>
-    requires closes { HasFirsts closes.now landmark.Closed (R.history readings.now).events (R.history readings.now).base.scopes (opened_count (R.history readings.now)) }
+    requires closes { HasFirsts closes.now Landmark.Closed (R.history readings.now).events (R.history readings.now).base.scopes (opened_count (R.history readings.now)) }
     requires owns { AreOwns owns.now (R.history readings.now) (opened_count (before (R.history readings.now) opening.place)) }
     requires within { opening.place ≤ length (R.history readings.now).events }
     requires searched { IsSearched (R.history readings.now) opening.place opening.actor from }
@@ -98,7 +94,7 @@ fn next_own<R: Readings>(
     last: &mut HashMap<u32, u32>,
     scope: ScopeId,
 ) -> Result<Option<ScopeId>, AllocError>
-    requires closes { HasFirsts closes.now landmark.Closed (R.history readings.now).events (R.history readings.now).base.scopes (opened_count (R.history readings.now)) }
+    requires closes { HasFirsts closes.now Landmark.Closed (R.history readings.now).events (R.history readings.now).base.scopes (opened_count (R.history readings.now)) }
     requires numbered { scope ≡ (R.history readings.now).base.scopes + 1 + length owns.now }
     requires owns { AreOwns owns.now (R.history readings.now) (length owns.now) }
     requires last { AreLasts (hash.get nat_eq last.old) (R.history readings.now) (length owns.now) }
@@ -119,7 +115,7 @@ pub(crate) fn owns_of<R: Readings>(
     readings: &R,
     closes: &Firsts,
 ) -> Result<Owns, AllocError>
-    requires { HasFirsts closes.now landmark.Closed (R.history readings.now).events (R.history readings.now).base.scopes (opened_count (R.history readings.now)) }
+    requires { HasFirsts closes.now Landmark.Closed (R.history readings.now).events (R.history readings.now).base.scopes (opened_count (R.history readings.now)) }
     ensures { IfOk result (λ owns. HasOwns owns (R.history readings.now)) }
 {
     let before = readings.retired_scopes();

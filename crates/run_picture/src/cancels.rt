@@ -1,11 +1,6 @@
 //! Which scope became cancelled where, and by whose own cancel.
-ghost use Rattle.std.specs.Prelude.{◌≡◌, ◌++◌, OnOk, Some, string_bytes};
-ghost use Rattle.scope_checks.specs.Queries.{cancellation};
-ghost use Rattle.scope_rules.specs.Cancels.{cancelled_before};
-ghost use Rattle.run_picture.specs.Cancels.{cancel_drawn, cancel_figures, fails_by, is_accident, joined_by, source_y};
-ghost use Rattle.run_picture.specs.Drawing.{shown};
-ghost use Rattle.run_picture.specs.Chart.{IsChartOf};
-ghost use Rattle.run_picture.specs.Sheet.{sheet_of};
+ghost use Rattle.run_picture.specs.{◌++◌, ◌≡◌, IsChartOf, OnOk, Some, cancel_drawn, cancel_figures, cancellation, cancelled_before, fails_by, is_accident, joined_by, sheet_of, shown, source_y};
+ghost use Rattle.run_picture.specs.{string_bytes};
 
 use crate::chart::Chart;
 use crate::marks::Mark;

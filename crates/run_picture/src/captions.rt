@@ -1,6 +1,7 @@
 //! What a row and a bar are called.
-ghost use Rattle.std.specs.Prelude.{◌≡◌, Some};
-ghost use Rattle.run_picture.specs.Captions.{fate_text, folded_text, fork_text, label_class, label_text, lasting_text, opener_text, scope_text, span_end, span_text, subject_text, title_text, titled_text, unit_end, unit_word};
+ghost use Rattle.run_picture.specs.{◌≡◌, Some, fate_text, folded_text, fork_text, label_class, label_text, lasting_text, opener_text, span_end, span_text, subject_text, title_text, titled_text};
+ghost use Rattle.run_picture.specs.{unended_text, unit_end, unit_word};
+ghost use Rattle.run_picture.specs.Captions.{scope_text};
 
 use crate::marks::{ShownCause, ShownState};
 use crate::rows::Folded;
@@ -102,7 +103,7 @@ pub enum Fate {
     Closing,
     /// So much lies in a closed scope.
     Folded(Folded),
-    /// So many tasks behind the first one ended like it.
+    /// So many tasks are behind the first one: all of its scope, or those that ended like it.
     More(Folded),
     /// A task waits for its thread.
     Waits,
@@ -110,6 +111,21 @@ pub enum Fate {
     Runs,
     /// A task ended.
     Ended(State),
+}
+
+/// How many tasks in a folded row have not ended, if there are such.
+#[derive(Clone, Copy)]
+struct ShownUnended(u32);
+
+impl fmt::Display for ShownUnended {
+    ghost output = { λ u. Some (unended_text u.0) };
+
+    fn fmt<W: fmt::Write>(&self, f: &mut fmt::Formatter<W>) -> fmt::Result {
+        match self.0 {
+            0 => Ok(()),
+            tasks => write!(f, ", {tasks} not ended"),
+        }
+    }
 }
 
 /// What lies in a folded row.
@@ -121,7 +137,12 @@ impl fmt::Display for ShownFolded {
 
     #[tactic(auto, unfolding(crate::specs::Captions::folded_text))]
     fn fmt<W: fmt::Write>(&self, f: &mut fmt::Formatter<W>) -> fmt::Result {
-        write!(f, " ({} tasks, {} failed)", self.0.tasks, self.0.failed)
+        let open = ShownUnended(self.0.unended);
+        write!(
+            f,
+            " ({} tasks, {} failed{open})",
+            self.0.tasks, self.0.failed
+        )
     }
 }
 

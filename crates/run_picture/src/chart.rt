@@ -1,20 +1,16 @@
 //! What is kept of a run while it is drawn: where something happened first, and the rows.
-ghost use Rattle.std.specs.Prelude.{◌≡◌, ◌<◌, ◌^◌, ◌++◌, ℕ, IfOk, OnOk, None, get_or, length};
-ghost use Rattle.run_picture.specs.Arounds.{IsNestOf};
-ghost use Rattle.run_picture.specs.Focus.{focused, focused_view};
-ghost use Rattle.run_picture.specs.Nodes.{node_count};
-ghost use Rattle.run_picture.specs.Sheet.{sheet_of};
-ghost use Rattle.run_picture.specs.Chart.{AreShown, IsChartOf, chosen_rows, one_with_all, placed_rows, shown_in};
+ghost use Rattle.run_picture.specs.{ℕ, ◌++◌, ◌<◌, ◌^◌, ◌≡◌, AreShown, IfOk, IsChartOf, IsNestOf, None, OnOk, chosen_rows, focused, focused_view, get_or, length, node_count, one_with_all, placed_rows};
+ghost use Rattle.run_picture.specs.{sheet_of, shown_in};
 
 use crate::arounds::{Nest, nest_of};
 use crate::closings::closings_of;
 use crate::forest::{Forest, Placed, append_rows, below, forest_of, nothings};
-use crate::landmarks::{Firsts, Landmark, firsts_of};
 use crate::nodes::{keys_of, node_count, scope_node};
 use crate::rows::{Row, rows_of};
 use crate::seen::seen_of;
-use crate::turns::closed_at;
 use crate::view::{View, column_of};
+use run_times::closed_at;
+use run_times::landmarks::{Firsts, Landmark, firsts_of};
 use scope_checks::Readings;
 use scope_rules::{Event, ScopeId};
 use std::alloc::{AllocError, Global};

@@ -1,14 +1,9 @@
 //! Where scopes begin to close: by a close of their own, or by one of a scope around that covers them. The scopes are
 //! gone through by number, so that what lies around a scope is known before.
-ghost use Rattle.std.specs.Prelude.{◌≡◌, ◌+◌, ◌<◌, IfOk, length};
-ghost use Rattle.scope_rules.specs.History.{opened_count};
-ghost use Rattle.run_picture.specs.declared.landmarks.Landmark.TheVariants as landmark;
-ghost use Rattle.run_picture.specs.Arounds.{IsNestOf, own_around};
-ghost use Rattle.run_picture.specs.Closings.{AreClosings, begins_to_close, sooner};
-ghost use Rattle.run_picture.specs.Landmarks.{HasFirsts, first_place};
+ghost use Rattle.run_picture.specs.{◌+◌, ◌<◌, ◌≡◌, AreClosings, HasFirsts, IfOk, IsNestOf, Landmark, begins_to_close, first_place, is_some, length, opened_count, opening, own_around, sooner, true};
 
 use crate::arounds::Nest;
-use crate::landmarks::Firsts;
+use run_times::landmarks::Firsts;
 use scope_checks::Readings;
 use scope_rules::ScopeId;
 use std::alloc::{AllocError, Global};
@@ -33,7 +28,7 @@ fn next_closing<R: Readings>(
 ) -> Option<usize>
     requires closings { AreClosings closings.now (R.history readings.now) (length closings.now.places.items) }
     requires opened { length closings.now.places.items < opened_count (R.history readings.now) }
-    requires begin { begin ≡ first_place landmark.Began (R.history readings.now).events ((R.history readings.now).base.scopes + 1 + length closings.now.places.items) }
+    requires begin { begin ≡ first_place Landmark.Began (R.history readings.now).events ((R.history readings.now).base.scopes + 1 + length closings.now.places.items) }
     requires own { own ≡ own_around (R.history readings.now) ((R.history readings.now).base.scopes + 1 + length closings.now.places.items) }
     ensures { result ≡ begins_to_close (R.history readings.now) ((R.history readings.now).base.scopes + 1 + length closings.now.places.items) }
 {
@@ -52,7 +47,7 @@ pub(crate) fn closings_of<R: Readings>(
     begins: &Firsts,
 ) -> Result<Firsts, AllocError>
     requires nest { IsNestOf nest.now (R.history readings.now) }
-    requires begins { HasFirsts begins.now landmark.Began (R.history readings.now).events (R.history readings.now).base.scopes (opened_count (R.history readings.now)) }
+    requires begins { HasFirsts begins.now Landmark.Began (R.history readings.now).events (R.history readings.now).base.scopes (opened_count (R.history readings.now)) }
     ensures { IfOk result (λ closings. AreClosings closings (R.history readings.now) (opened_count (R.history readings.now))) }
 {
     let before = readings.retired_scopes();
@@ -68,4 +63,18 @@ pub(crate) fn closings_of<R: Readings>(
         closings.places.push(place)?;
     }
     Ok(closings)
+}
+
+/// Where the scope begins to close, if it does: by its own close, or by one of a scope around that covers it.
+pub(crate) fn closing_at<R: Readings>(
+    readings: &R,
+    closings: &Firsts,
+    scope: ScopeId,
+) -> Option<usize>
+    requires closings { AreClosings closings.now (R.history readings.now) (opened_count (R.history readings.now)) }
+    requires opened { is_some (opening (R.history readings.now) scope) ≡ true }
+    ensures { result ≡ begins_to_close (R.history readings.now) scope }
+{
+    let _readings = readings;
+    closings.place(scope)
 }

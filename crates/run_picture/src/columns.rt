@@ -1,15 +1,12 @@
 //! The columns of a run, which its page reads: a row for each task and for each scope since the last retirement, by
 //! number. A row says where things happened, as places of events, so that the page compares numbers and knows no rule.
-ghost use Rattle.std.specs.Prelude.{◌≡◌, true, IfOk, Some, is_some};
-ghost use Rattle.scope_rules.specs.History.{forked_count, forking, opened_count, opening};
-ghost use Rattle.run_picture.specs.declared.landmarks.Landmark.TheVariants as landmark;
-ghost use Rattle.run_picture.specs.Columns.{AreColumnsOf, ArePlacesOf, AreScopeRows, AreTaskRows, IsScopeRow, IsTaskRow};
-ghost use Rattle.run_picture.specs.Landmarks.{first_place};
+ghost use Rattle.run_picture.specs.{◌≡◌, AreColumnsOf, ArePlacesOf, AreScopeRows, AreTaskRows, IfOk, IsScopeRow, IsTaskRow, Landmark, Some, first_place, forked_count, forking, is_some, opened_count};
+ghost use Rattle.run_picture.specs.{opening, true};
 
 use crate::arounds::{Nest, around, nest_of};
-use crate::closings::closings_of;
-use crate::landmarks::{Firsts, Landmark, firsts_of};
-use crate::turns::{closed_at, closing_at, ended_at, started_at};
+use crate::closings::{closing_at, closings_of};
+use run_times::landmarks::{Firsts, Landmark, firsts_of};
+use run_times::{closed_at, ended_at, started_at};
 use scope_checks::Readings;
 use scope_checks::queries::cancellation;
 use scope_rules::types::records::{Forking, Opening};
@@ -114,7 +111,7 @@ fn task_row<R: Readings>(readings: &R, places: &Places, task: TaskId, forked: Fo
 fn joined_at<R: Readings>(readings: &R, places: &Places, scope: ScopeId) -> Option<usize>
     requires places { ArePlacesOf places.now (R.history readings.now) }
     requires opened { is_some (opening (R.history readings.now) scope) ≡ true }
-    ensures { result ≡ first_place landmark.Joined (R.history readings.now).events scope }
+    ensures { result ≡ first_place Landmark.Joined (R.history readings.now).events scope }
 {
     let _readings = readings;
     places.joins.place(scope)

@@ -1,6 +1,5 @@
 //! How a page writes numbers: in digits of 32, the lowest first, in characters that mean nothing to HTML.
-ghost use Rattle.std.specs.Prelude.{◌≡◌, ◌++◌, OnOk, string_bytes};
-ghost use Rattle.run_picture.specs.Digits.{far, number_text, numbers_text, small_place, step};
+ghost use Rattle.run_picture.specs.{◌++◌, ◌≡◌, OnOk, far, number_text, numbers_text, small_place, step, string_bytes};
 
 use std::alloc::AllocError;
 

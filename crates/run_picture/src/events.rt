@@ -1,10 +1,5 @@
 //! What an event draws in the row of the scope that it names.
-ghost use Rattle.std.specs.Prelude.{◌≡◌, ◌++◌, OnOk, Some, string_bytes};
-ghost use Rattle.scope_rules.specs.History.{tick_of};
-ghost use Rattle.run_picture.specs.Drawing.{shown};
-ghost use Rattle.run_picture.specs.Chart.{IsChartOf};
-ghost use Rattle.run_picture.specs.Sheet.{sheet_of};
-ghost use Rattle.run_picture.specs.Events.{drawn, event_mark, event_scope, event_figures, marked, moment_line};
+ghost use Rattle.run_picture.specs.{◌++◌, ◌≡◌, IsChartOf, OnOk, Some, drawn, event_figures, event_mark, event_scope, marked, moment_line, sheet_of, shown, string_bytes, tick_of};
 
 use crate::chart::Chart;
 use crate::marks::Mark;

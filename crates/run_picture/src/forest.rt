@@ -1,6 +1,5 @@
 //! Nodes in the order of the tree that they form: a node, what lies below it, and then its next sibling.
-ghost use Rattle.std.specs.Prelude.{◌≡◌, ◌<◌, ◌+◌, ◌^◌, ◌++◌, IfOk, OnOk, None, get_or};
-ghost use Rattle.run_picture.specs.Forest.{AreKeys, IsForestOf, IsNothings, rows_from};
+ghost use Rattle.run_picture.specs.{◌++◌, ◌+◌, ◌<◌, ◌^◌, ◌≡◌, AreKeys, IfOk, IsForestOf, IsNothings, None, OnOk, get_or, rows_from};
 
 use std::alloc::{AllocError, Global};
 

@@ -1,6 +1,6 @@
 //! What stands around the rows: the picture's head and its foot.
-ghost use Rattle.std.specs.Prelude.{◌≡◌, Some};
-ghost use Rattle.run_picture.specs.Frame.{axis_text, axis_word, foot_text, head_text, legend_begin, name_text, opened_text, prepared_text, size_text, tall, until_word, view_text};
+ghost use Rattle.run_picture.specs.{◌≡◌, Some, axis_word, foot_text, head_text, legend_begin, name_text, opened_text, prepared_text, size_text, tall, until_word, view_text};
+ghost use Rattle.run_picture.specs.Frame.{axis_text};
 
 use crate::pieces::{
     cancel_legend, dark, end_shapes, light, line_legend, mark_legend, scope_shapes, svg_begin,

@@ -1,11 +1,7 @@
 //! What a row draws: a task, a scope, or a closed scope with all that lies in it.
-ghost use Rattle.std.specs.Prelude.{◌≡◌, ◌<◌, ◌-◌, ◌++◌, OnOk, Some, is_some, string_bytes, true};
-ghost use Rattle.scope_rules.specs.History.{forking, opening};
-ghost use Rattle.scope_rules.specs.Tasks.{state};
-ghost use Rattle.run_picture.specs.Drawing.{shown};
-ghost use Rattle.run_picture.specs.Chart.{IsChartOf};
-ghost use Rattle.run_picture.specs.Sheet.{sheet_of};
-ghost use Rattle.run_picture.specs.Lanes.{band_shade, band, bar_in, cancelled_bar, closing_bar, end_mark, end_shade, end_figure, folded_lane, folded_shade, fork_drawn, fork_of, forked_lane, label_in, life_drawn, opened_lane, row_drawn, running_fate, running_shade, running_bar, scope_lane, scope_of, task_fate, task_lane};
+ghost use Rattle.run_picture.specs.{◌++◌, ◌-◌, ◌<◌, ◌≡◌, IsChartOf, OnOk, Some, band, band_shade, bar_in, cancelled_bar, closing_bar, end_figure, end_mark, end_shade, folded_lane, folded_shade};
+ghost use Rattle.run_picture.specs.{fork_drawn, fork_of, forked_lane, forking, is_some, label_in, life_drawn, opened_lane, opening, row_drawn, running_bar, running_fate, running_shade, scope_lane};
+ghost use Rattle.run_picture.specs.{scope_of, sheet_of, shown, state, string_bytes, task_fate, task_lane, true};
 
 use crate::cancels::{is_accident, is_cancelled_before};
 use crate::captions::{Fate, Label, ShownFork, ShownScope, Subject, Title};

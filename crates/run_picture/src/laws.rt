@@ -1,7 +1,7 @@
 //! Laws of pictures and traces, above their definitions. Each function does nothing: its contract is the law.
-ghost use Rattle.run_picture.specs.Laws.{EachIsPlacedOnce, EachRowCountsItsOwn, EachScopeHasOneBand, EachTaskHasOneLane};
-ghost use Rattle.run_picture.specs.Marked.{EachBandHasOneLabel, EachCancelHasOneMark, EachClosingBeginsThere, EachClosingHasOneLine, EachEndHasOneMark, EachLaneHasOneLabel, EachMarkIsSo};
-ghost use Rattle.run_picture.specs.Traced.{EachCancelHasOneInstant, EachClosingHasOneInstant, EachForkTimeIsItsOwn, EachOpenTimeIsItsOwn, EachRecordIsSo, EachScopeHasOneSlice, EachStartTimeIsItsOwn, EachTaskBeginsOnce, EachTaskHasOneSlice};
+ghost use Rattle.run_picture.specs.{EachBandHasOneLabel, EachCancelHasOneInstant, EachCancelHasOneMark, EachClosingBeginsThere, EachClosingHasOneInstant, EachClosingHasOneLine, EachEndHasOneMark};
+ghost use Rattle.run_picture.specs.{EachIsPlacedOnce, EachLaneHasOneLabel, EachMarkIsSo, EachRecordIsSo, EachRowCountsItsOwn, EachScopeHasOneBand, EachScopeHasOneSlice, EachTaskBeginsOnce};
+ghost use Rattle.run_picture.specs.{EachTaskHasOneLane, EachTaskHasOneSlice};
 
 /// In a picture of the whole run each task and each scope is placed exactly once. If nothing is folded, each task in view
 /// has one lane and each scope in view one band, in rows of their own; what has no part in view has none.
@@ -78,12 +78,4 @@ pub fn records_stand_once()
 /// - An arrow goes from the owner of the scope whose own cancel it was to the owner of the one that it reached.
 pub fn records_are_so()
     ensures { EachRecordIsSo }
-{}
-
-/// The reading of a task's start is that of the event by which this task started. The reading of its fork is that of its
-/// own fork, and the reading of a scope's opening is that of its own opening.
-pub fn times_are_their_own()
-    ensures forks { EachForkTimeIsItsOwn }
-    ensures starts { EachStartTimeIsItsOwn }
-    ensures opens { EachOpenTimeIsItsOwn }
 {}

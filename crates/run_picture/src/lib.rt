@@ -4,7 +4,8 @@
 //! its tasks below it, a task's own scopes below the task, and then the scopes that its owner opened in it. Rows are
 //! indented by depth. If they are more than the view allows, a closed scope is one row with all that lies in it, and
 //! says how many tasks these are and how many of them failed. So are tasks of one scope that have ended, one behind the
-//! other, all of which failed, or none. A view may show one scope alone, as long as that lasts, and from one event to
+//! other, all of which failed, or none. From 1,000 rows on, or as many as the view allows, the rest of a scope's tasks are
+//! one row, which says how many they are, how many failed and how many have not ended. A view may show one scope alone, as long as that lasts, and from one event to
 //! another: then only what lasts in between has a row, and only what happened there has a mark.
 //!
 //! The way to the right is time if the caller hands the times of the events, with an axis of round ones, and else their
@@ -44,7 +45,6 @@ mod digits;
 mod events;
 mod forest;
 mod frame;
-mod landmarks;
 mod lanes;
 pub mod laws;
 mod marks;
@@ -62,10 +62,8 @@ mod shields;
 mod sites;
 mod slices;
 mod spots;
-mod stamps;
 mod strokes;
 mod trace;
-mod turns;
 mod view;
 mod words;
 
@@ -75,14 +73,12 @@ pub use chart::Drawn;
 pub use columns::{Columns, ScopeRow, TaskRow, columns_of};
 pub use forest::Placed;
 pub use frame::{Frame, ShownFoot, ShownHead};
-pub use landmarks::Landmark;
 pub use marks::{Mark, ShownMark};
 pub use page::page_of;
 pub use picture::{picture_of, picture_with};
-pub use rows::{Class, Folded, Node, Row};
+pub use rows::{Class, Fold, Folded, Node, Row};
 pub use slices::{Arrow, Instant, Point, ScopeSlice, Stretch, TaskSlice, Track, Wait, WaitSlice};
 pub use spots::Spot;
-pub use stamps::{fork_times, open_times, start_times};
 pub use strokes::{Bar, Reach, Shade, Tick};
 pub use trace::trace_of;
 pub use view::View;

@@ -1,7 +1,5 @@
 //! The marks of a picture.
-ghost use Rattle.std.specs.Prelude.{◌≡◌, Some};
-ghost use Rattle.run_picture.specs.MarkText.{cause_text, ended_text, held_text, moved_text};
-ghost use Rattle.run_picture.specs.Marks.{at_text, cancel_word, mark_text, mark_word, note_text, note_title};
+ghost use Rattle.run_picture.specs.{◌≡◌, Some, at_text, cancel_word, cause_text, ended_text, held_text, mark_text, mark_word, moved_text, note_text, note_title};
 
 use crate::captions::{Measure, unit_end, unit_word};
 use crate::spots::Spot;

@@ -1,10 +1,7 @@
 //! The tasks and the scopes since the base as nodes of one tree: first the tasks by number, then the scopes. Below a
 //! scope lie its tasks, and the scopes that its owner opened in it; below a task, those that it opened itself.
-ghost use Rattle.std.specs.Prelude.{◌≡◌, ◌+◌, ◌<◌, ◌^◌, IfOk, IfSome, is_some, length};
-ghost use Rattle.scope_rules.specs.History.{forked_count, opened_count, opening};
-ghost use Rattle.run_picture.specs.Arounds.{IsNestOf};
-ghost use Rattle.run_picture.specs.Forest.{AreKeys};
-ghost use Rattle.run_picture.specs.Nodes.{node_count, keys, scope_key, scope_node, task_key, task_node};
+ghost use Rattle.run_picture.specs.{◌+◌, ◌<◌, ◌^◌, ◌≡◌, AreKeys, IfOk, IfSome, IsNestOf, forked_count, is_some, keys, length, node_count, opened_count, opening, scope_key, scope_node, task_key};
+ghost use Rattle.run_picture.specs.{task_node};
 
 use crate::arounds::{Nest, own_of};
 use scope_checks::Readings;

@@ -1,8 +1,7 @@
 //! The rows of a page as numbers: what stands in a row, by the row before it.
-ghost use Rattle.std.specs.Prelude.{◌≡◌, ◌+◌, ◌<◌, ◌^◌, ◌++◌, OnOk, get_or, string_bytes};
-ghost use Rattle.std.specs.Option.{option_map_or};
-ghost use Rattle.scope_rules.specs.History.{tick_of};
-ghost use Rattle.run_picture.specs.Page.{cancelled_far, cause_number, event_text, how, made_by, moved, moved_numbers, nothing_before, one_before, options_number, scope_before, scope_numbers, scope_text, source_back, task_before, task_numbers, task_text, time_text};
+ghost use Rattle.run_picture.specs.{◌++◌, ◌+◌, ◌<◌, ◌^◌, ◌≡◌, OnOk, cancelled_far, cause_number, event_text, get_or, how, made_by, moved, moved_numbers, nothing_before, one_before, option_map_or};
+ghost use Rattle.run_picture.specs.{options_number, scope_before, scope_text, source_back, string_bytes, task_before, task_text, tick_of, time_text};
+ghost use Rattle.run_picture.specs.Page.{scope_numbers, task_numbers};
 
 use crate::columns::{ScopeRow, TaskRow};
 use crate::digits::{append_number, append_numbers, far, small_place, step};

@@ -1,15 +1,6 @@
 //! The picture.
-ghost use Rattle.std.specs.Prelude.{◌≡◌, ◌++◌, IfOk, OnOk, length, string_bytes};
-ghost use Rattle.run_picture.specs.Axis.{axis_text};
-ghost use Rattle.run_picture.specs.Frame.{foot_text};
-ghost use Rattle.scope_rules.specs.History.{scope_numbers};
-ghost use Rattle.run_picture.specs.Cancels.{cancel_figures};
-ghost use Rattle.run_picture.specs.Drawing.{all, shown};
-ghost use Rattle.run_picture.specs.Chart.{IsChartOf, drawn_rows};
-ghost use Rattle.run_picture.specs.Sheet.{sheet_of};
-ghost use Rattle.run_picture.specs.Events.{event_figures, moment_line};
-ghost use Rattle.run_picture.specs.Shields.{shield_figures};
-ghost use Rattle.run_picture.specs.Picture.{drawn_text, figures, indexes, now_in, picture_text, places, row_at};
+ghost use Rattle.run_picture.specs.{◌++◌, ◌≡◌, IfOk, IsChartOf, OnOk, all, axis_text, cancel_figures, drawn_rows, drawn_text, event_figures, figures, foot_text, indexes, length, moment_line, now_in};
+ghost use Rattle.run_picture.specs.{picture_text, places, row_at, scope_numbers, sheet_of, shield_figures, shown, string_bytes};
 
 use crate::axis::append_axis;
 use crate::cancels::append_cancel;

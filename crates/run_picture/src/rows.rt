@@ -1,8 +1,6 @@
 //! The rows of a picture: a task, a scope, a closed scope with all that lies in it, or tasks of one scope that have ended.
-ghost use Rattle.std.specs.Prelude.{◌≡◌, ◌<◌, [], IfOk, OnOk, length, map};
-ghost use Rattle.scope_rules.specs.Tasks.{is_settled};
-ghost use Rattle.run_picture.specs.Laws.{LosesNothing};
-ghost use Rattle.run_picture.specs.Rows.{begun, begun_with, class_of, counted, fits, folded_from, folded_in, has_ended, has_failed, is_done, is_ended_as, is_failed, node_of, plain, rows_of, taken_in};
+ghost use Rattle.run_picture.specs.{[], ◌<◌, ◌≡◌, IfOk, OnOk, begun, begun_with, class_of, counted, fits, folded_from, folded_in, has_ended, has_failed, is_done, is_ended_as, is_failed, is_settled};
+ghost use Rattle.run_picture.specs.{is_task, length, map, more_if, node_of, plain, rows_of, taken_in};
 
 use crate::forest::Placed;
 use scope_checks::Readings;
@@ -16,13 +14,26 @@ pub enum Node {
     Scope(ScopeId),
 }
 
-/// How many tasks lie in a folded row, and how many of them failed.
+/// What a folded row takes in.
+#[derive(Clone, Copy)]
+pub enum Fold {
+    /// What lies below a closed scope.
+    Below,
+    /// Tasks behind the first that have ended like it, which failed or not.
+    Alike(bool),
+    /// All tasks of the scope behind the first.
+    Rest,
+}
+
+/// How many tasks lie in a folded row.
 #[derive(Clone, Copy)]
 pub struct Folded {
     pub tasks: u32,
+    /// How many of them failed.
     pub failed: u32,
-    /// If the row is a run of tasks that have ended, whether they failed: all of them, or none.
-    pub run: Option<bool>,
+    /// How many of them have not ended.
+    pub unended: u32,
+    pub fold: Fold,
 }
 
 /// A row of a picture.
@@ -113,21 +124,24 @@ fn class_of<R: Readings>(readings: &R, node: u32) -> Class
     }
 }
 
+/// The count, with one more if so.
+fn more_if(more: bool, count: u32) -> u32
+    ensures { result ≡ more_if more count }
+{
+    if more { count.saturating_add(1) } else { count }
+}
+
 impl Folded {
     /// One node more.
     fn with(self, class: Class) -> Folded
         ensures { result ≡ counted self class }
     {
         match class {
-            Class::Task { failed: true, .. } => Folded {
+            Class::Task { failed, ended } => Folded {
                 tasks: self.tasks.saturating_add(1),
-                failed: self.failed.saturating_add(1),
-                run: self.run,
-            },
-            Class::Task { failed: false, .. } => Folded {
-                tasks: self.tasks.saturating_add(1),
-                failed: self.failed,
-                run: self.run,
+                failed: more_if(failed, self.failed),
+                unended: more_if(!ended, self.unended),
+                fold: self.fold,
             },
             Class::Scope { .. } => self,
         }
@@ -146,8 +160,8 @@ fn plain(placed: Placed) -> Row
 }
 
 /// The row that the node begins, with nothing else in it yet.
-fn begun_with(placed: Placed, run: Option<bool>) -> Row
-    ensures { result ≡ begun_with placed run }
+fn begun_with(placed: Placed, fold: Fold) -> Row
+    ensures { result ≡ begun_with placed fold }
 {
     Row {
         node: placed.node,
@@ -155,24 +169,35 @@ fn begun_with(placed: Placed, run: Option<bool>) -> Row
         folded: Some(Folded {
             tasks: 0,
             failed: 0,
-            run,
+            unended: 0,
+            fold,
         }),
     }
 }
 
 /// The row that the node begins, in a picture that is folded: a closed scope takes in what lies below it, and a task that
-/// has ended takes in those behind it in the same scope that ended alike.
-fn begun(placed: Placed, class: Class) -> Row
-    ensures { result ≡ begun placed class }
+/// has ended takes in those behind it in the same scope that ended alike. If there are many rows already, a task takes in
+/// all that are behind it in the same scope.
+fn begun(full: bool, placed: Placed, class: Class) -> Row
+    ensures { result ≡ begun full placed class }
 {
     match class {
-        Class::Scope { closed: true } => begun_with(placed, None),
+        Class::Scope { closed: true } => begun_with(placed, Fold::Below),
+        Class::Scope { closed: false } => plain(placed),
+        Class::Task { .. } if full => begun_with(placed, Fold::Rest),
         Class::Task {
             failed,
             ended: true,
-        } => begun_with(placed, Some(failed)),
-        _ => plain(placed),
+        } => begun_with(placed, Fold::Alike(failed)),
+        Class::Task { ended: false, .. } => plain(placed),
     }
+}
+
+/// Whether the node is a task.
+fn is_task(class: Class) -> bool
+    ensures { result ≡ is_task class }
+{
+    matches!(class, Class::Task { .. })
 }
 
 /// Whether the node is a task that has ended, or a closed scope.
@@ -209,15 +234,15 @@ fn is_ended_as(failed: bool, class: Class) -> bool
 }
 
 /// Whether the row takes in the node.
-fn fits(run: Option<bool>, row: Row, placed: Placed, class: Class) -> bool
-    ensures { result ≡ fits run row placed class }
+fn fits(fold: Fold, row: Row, placed: Placed, class: Class) -> bool
+    ensures { result ≡ fits fold row placed class }
 {
-    match run {
-        None => row.depth < placed.depth,
-        Some(failed) => {
-            (row.depth < placed.depth && is_done(class))
-                || (row.depth == placed.depth && is_ended_as(failed, class))
-        },
+    let lower = row.depth < placed.depth;
+    let beside = row.depth == placed.depth;
+    match fold {
+        Fold::Below => lower,
+        Fold::Alike(failed) => (lower && is_done(class)) || (beside && is_ended_as(failed, class)),
+        Fold::Rest => lower || (beside && is_task(class)),
     }
 }
 
@@ -226,7 +251,7 @@ fn taken_in(row: Row, placed: Placed, class: Class) -> Option<Row>
     ensures { result ≡ taken_in row placed class }
 {
     match row.folded {
-        Some(folded) if fits(folded.run, row, placed, class) => Some(Row {
+        Some(folded) if fits(folded.fold, row, placed, class) => Some(Row {
             node: row.node,
             depth: row.depth,
             folded: Some(folded.with(class)),
@@ -238,36 +263,38 @@ fn taken_in(row: Row, placed: Placed, class: Class) -> Option<Row>
 /// Puts the node into the last row, if that takes it in, or else begins a row. It is refused
 /// for memory alone.
 #[tactic(auto, using(std::proofs::lemmas::Grind::common_steps, crate::proofs::Folding::folded_last))]
-fn fold_in(rows: &mut Vec<Row>, placed: Placed, class: Class) -> Result<(), AllocError>
-    ensures { OnOk result (rows.new.items ≡ folded_in rows.old.items placed class) }
+fn fold_in(full: bool, rows: &mut Vec<Row>, placed: Placed, class: Class) -> Result<(), AllocError>
+    ensures { OnOk result (rows.new.items ≡ folded_in full rows.old.items placed class) }
 {
     let Some(row) = rows.pop() else {
-        rows.push(begun(placed, class))?;
+        rows.push(begun(full, placed, class))?;
         return Ok(());
     };
     match taken_in(row, placed, class) {
         Some(taken) => rows.push(taken)?,
         None => {
             rows.push(row)?;
-            rows.push(begun(placed, class))?;
+            rows.push(begun(full, placed, class))?;
         },
     }
     Ok(())
 }
 
-/// The rows of the nodes: each by itself, or folded, if they are more than so many. Folded or not, they stand for as
-/// many tasks, and for as many failed ones, as there are among the nodes. It is refused for memory alone.
+/// So many rows a folded picture has, before the rest of each scope's tasks is one row.
+const MANY: u32 = 1000;
+
+/// The rows of the nodes: each by itself, or folded, if they are more than so many. It is refused for memory
+/// alone.
 pub(crate) fn rows_of<R: Readings>(
     alloc: Global,
     readings: &R,
     placed: &[Placed],
     limit: u32,
 ) -> Result<Vec<Row>, AllocError>
-    ensures rows { IfOk result (λ rows. rows.items ≡ rows_of (R.history readings.now) limit placed.now) }
-    ensures whole { IfOk result (λ rows. length placed.now < 4294967295 → LosesNothing (R.history readings.now) rows.items placed.now) }
+    ensures { IfOk result (λ rows. rows.items ≡ rows_of (R.history readings.now) limit placed.now) }
 {
     if placed.len() > limit as usize {
-        folded_rows(alloc, readings, placed)
+        folded_rows(alloc, readings, placed, limit.max(MANY))
     } else {
         plain_rows(alloc, readings, placed)
     }
@@ -280,8 +307,7 @@ fn plain_rows<R: Readings>(
     readings: &R,
     placed: &[Placed],
 ) -> Result<Vec<Row>, AllocError>
-    ensures rows { IfOk result (λ rows. rows.items ≡ map plain placed.now) }
-    ensures whole { IfOk result (λ rows. length placed.now < 4294967295 → LosesNothing (R.history readings.now) rows.items placed.now) }
+    ensures { IfOk result (λ rows. rows.items ≡ map plain placed.now) }
 {
     let _readings = readings;
     let mut rows = Vec::new(alloc);
@@ -291,19 +317,21 @@ fn plain_rows<R: Readings>(
     Ok(rows)
 }
 
-/// The rows of the nodes, folded. It is refused for memory alone.
+/// The rows of the nodes, folded, and from so many rows on the rest of each scope's tasks in one. It is refused for memory
+/// alone.
 #[tactic(auto, using(std::proofs::lemmas::Grind::common_steps, crate::proofs::Folding::folded_more))]
 fn folded_rows<R: Readings>(
     alloc: Global,
     readings: &R,
     placed: &[Placed],
+    many: u32,
 ) -> Result<Vec<Row>, AllocError>
-    ensures rows { IfOk result (λ rows. rows.items ≡ folded_from (R.history readings.now) [] placed.now) }
-    ensures whole { IfOk result (λ rows. length placed.now < 4294967295 → LosesNothing (R.history readings.now) rows.items placed.now) }
+    ensures { IfOk result (λ rows. rows.items ≡ folded_from (R.history readings.now) many [] placed.now) }
 {
     let mut rows = Vec::new(alloc);
     for one in placed {
-        fold_in(&mut rows, *one, class_of(readings, one.node))?;
+        let full = many as usize <= rows.len();
+        fold_in(full, &mut rows, *one, class_of(readings, one.node))?;
     }
     Ok(rows)
 }

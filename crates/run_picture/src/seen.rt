@@ -1,18 +1,13 @@
 //! Which nodes have something in view.
-ghost use Rattle.std.specs.Prelude.{◌≡◌, IfOk, Some};
-ghost use Rattle.scope_rules.specs.History.{forked_count, forking};
-ghost use Rattle.run_picture.specs.declared.landmarks.Landmark.TheVariants as landmark;
-ghost use Rattle.run_picture.specs.Arounds.{IsNestOf};
-ghost use Rattle.run_picture.specs.Landmarks.{HasFirsts};
-ghost use Rattle.run_picture.specs.Seen.{is_seen, scope_seen, seen_rows, task_end, task_seen};
+ghost use Rattle.run_picture.specs.{◌≡◌, HasFirsts, IfOk, IsNestOf, Landmark, Some, forked_count, forking, is_seen, scope_seen, seen_rows, task_end, task_seen};
 
 use crate::arounds::Nest;
 use crate::cancels::is_cancelled_before;
 use crate::forest::Placed;
-use crate::landmarks::Firsts;
 use crate::rows::{Node, node_of};
-use crate::turns::{closed_at, ended_at};
 use crate::view::View;
+use run_times::landmarks::Firsts;
+use run_times::{closed_at, ended_at};
 use scope_checks::Readings;
 use scope_rules::types::records::Forking;
 use scope_rules::{ScopeId, TaskId};
@@ -25,7 +20,7 @@ fn task_end<R: Readings>(
     task: TaskId,
     forked: Forking,
 ) -> Option<usize>
-    requires ends { HasFirsts ends.now landmark.Ended (R.history readings.now).events (R.history readings.now).base.tasks (forked_count (R.history readings.now)) }
+    requires ends { HasFirsts ends.now Landmark.Ended (R.history readings.now).events (R.history readings.now).base.tasks (forked_count (R.history readings.now)) }
     requires forked { forking (R.history readings.now) task ≡ Some forked }
     ensures { result ≡ task_end (R.history readings.now) task forked }
 {
@@ -39,7 +34,7 @@ fn task_end<R: Readings>(
 /// Whether the task is in view between its fork and its end.
 #[tactic(auto, unfolding(crate::specs::Seen::task_seen))]
 fn task_seen<R: Readings>(readings: &R, ends: &Firsts, view: View, task: TaskId) -> bool
-    requires ends { HasFirsts ends.now landmark.Ended (R.history readings.now).events (R.history readings.now).base.tasks (forked_count (R.history readings.now)) }
+    requires ends { HasFirsts ends.now Landmark.Ended (R.history readings.now).events (R.history readings.now).base.tasks (forked_count (R.history readings.now)) }
     ensures { result ≡ task_seen (R.history readings.now) view task }
 {
     match readings.forking(task) {
@@ -63,7 +58,7 @@ fn scope_seen<R: Readings>(readings: &R, nest: &Nest, view: View, scope: ScopeId
 /// Whether the node is in view.
 fn is_seen<R: Readings>(readings: &R, nest: &Nest, ends: &Firsts, view: View, node: u32) -> bool
     requires nest { IsNestOf nest.now (R.history readings.now) }
-    requires ends { HasFirsts ends.now landmark.Ended (R.history readings.now).events (R.history readings.now).base.tasks (forked_count (R.history readings.now)) }
+    requires ends { HasFirsts ends.now Landmark.Ended (R.history readings.now).events (R.history readings.now).base.tasks (forked_count (R.history readings.now)) }
     ensures { result ≡ is_seen (R.history readings.now) view node }
 {
     match node_of(readings, node) {
@@ -84,7 +79,7 @@ pub(crate) fn seen_of<R: Readings>(
     view: View,
 ) -> Result<Vec<Placed>, AllocError>
     requires nest { IsNestOf nest.now (R.history readings.now) }
-    requires ends { HasFirsts ends.now landmark.Ended (R.history readings.now).events (R.history readings.now).base.tasks (forked_count (R.history readings.now)) }
+    requires ends { HasFirsts ends.now Landmark.Ended (R.history readings.now).events (R.history readings.now).base.tasks (forked_count (R.history readings.now)) }
     ensures { IfOk result (λ seen. seen.items ≡ seen_rows (R.history readings.now) view placed.now) }
 {
     let mut seen = Vec::new(alloc);

@@ -1,10 +1,5 @@
 //! Which shields held off a cancel, and where.
-ghost use Rattle.std.specs.Prelude.{◌≡◌, ◌++◌, ◌+◌, ◌<◌, OnOk, Some, length, string_bytes};
-ghost use Rattle.scope_rules.specs.History.{opening};
-ghost use Rattle.run_picture.specs.Drawing.{shown};
-ghost use Rattle.run_picture.specs.Chart.{IsChartOf};
-ghost use Rattle.run_picture.specs.Sheet.{sheet_of};
-ghost use Rattle.run_picture.specs.Shields.{goes_on, held_off, held_mark, opened_shield, shield_figures};
+ghost use Rattle.run_picture.specs.{◌++◌, ◌+◌, ◌<◌, ◌≡◌, IsChartOf, OnOk, Some, goes_on, held_mark, held_off, length, opened_shield, opening, sheet_of, shield_figures, shown, string_bytes};
 
 use crate::arounds::{around, closed_before};
 use crate::cancels::is_cancelled_before;

@@ -1,20 +1,15 @@
 //! Where in the chart something stands.
-ghost use Rattle.std.specs.Prelude.{◌≡◌, true, is_some};
-ghost use Rattle.scope_rules.specs.History.{forking, opening};
-ghost use Rattle.run_picture.specs.declared.landmarks.Landmark.TheVariants as landmark;
-ghost use Rattle.run_picture.specs.Chart.{IsChartOf};
-ghost use Rattle.run_picture.specs.Closings.{begins_to_close};
-ghost use Rattle.run_picture.specs.Sheet.{sheet_of};
-ghost use Rattle.run_picture.specs.Landmarks.{first_place};
-ghost use Rattle.run_picture.specs.Sites.{closed_place, end_x, lasting_in, mark_at, measure_in, number_in, scope_row, span_in, x_in};
+ghost use Rattle.run_picture.specs.{◌≡◌, IsChartOf, Landmark, begins_to_close, closed_place, end_x, first_place, forking, is_some, lasting_in, mark_at, measure_in, number_in, opening, scope_row};
+ghost use Rattle.run_picture.specs.{sheet_of, span_in, true, x_in};
 
 use crate::captions::{Measure, Span};
 use crate::chart::{Chart, Drawn};
+use crate::closings::closing_at;
 use crate::marks::{Mark, ShownMark};
 use crate::nodes::{node_count, scope_node};
 use crate::spots::Spot;
-use crate::turns::{closed_at, closing_at, ended_at, started_at};
 use crate::view::{column_of, time_at, x_at};
+use run_times::{closed_at, ended_at, started_at};
 use scope_checks::Readings;
 use scope_rules::{ScopeId, TaskId};
 
@@ -140,7 +135,7 @@ pub(crate) fn scope_row<R: Readings>(readings: &R, chart: &Chart<'_>, scope: Sco
 pub(crate) fn start_of<R: Readings>(readings: &R, chart: &Chart<'_>, task: TaskId) -> Option<usize>
     requires chart { IsChartOf chart.now chart.now.drawn (R.history readings.now) }
     requires forked { is_some (forking (R.history readings.now) task) ≡ true }
-    ensures { result ≡ first_place landmark.Started (R.history readings.now).events task }
+    ensures { result ≡ first_place Landmark.Started (R.history readings.now).events task }
 {
     started_at(readings, &chart.starts, task)
 }
@@ -149,7 +144,7 @@ pub(crate) fn start_of<R: Readings>(readings: &R, chart: &Chart<'_>, task: TaskI
 pub(crate) fn end_of<R: Readings>(readings: &R, chart: &Chart<'_>, task: TaskId) -> Option<usize>
     requires chart { IsChartOf chart.now chart.now.drawn (R.history readings.now) }
     requires forked { is_some (forking (R.history readings.now) task) ≡ true }
-    ensures { result ≡ first_place landmark.Ended (R.history readings.now).events task }
+    ensures { result ≡ first_place Landmark.Ended (R.history readings.now).events task }
 {
     ended_at(readings, &chart.ends, task)
 }
@@ -158,7 +153,7 @@ pub(crate) fn end_of<R: Readings>(readings: &R, chart: &Chart<'_>, task: TaskId)
 pub(crate) fn join_of<R: Readings>(readings: &R, chart: &Chart<'_>, scope: ScopeId) -> Option<usize>
     requires chart { IsChartOf chart.now chart.now.drawn (R.history readings.now) }
     requires opened { is_some (opening (R.history readings.now) scope) ≡ true }
-    ensures { result ≡ first_place landmark.Joined (R.history readings.now).events scope }
+    ensures { result ≡ first_place Landmark.Joined (R.history readings.now).events scope }
 {
     let _readings = readings;
     chart.joins.place(scope)

@@ -1,6 +1,7 @@
 //! The records of a trace.
-ghost use Rattle.std.specs.Prelude.{◌≡◌, Some};
-ghost use Rattle.run_picture.specs.Slices.{arrow_head, arrow_tail, arrow_text, cause_args, closed_args, closing_text, instant_text, never_text, result_text, scope_text, point_text, stretch_text, task_text, told_text, track_head, track_text, wait_text, wait_word};
+ghost use Rattle.run_picture.specs.{◌≡◌, Some, arrow_head, arrow_tail, arrow_text, cause_args, closed_args, closing_text, instant_text, never_text, point_text, result_text, stretch_text, told_text};
+ghost use Rattle.run_picture.specs.{track_head, track_text, wait_text, wait_word};
+ghost use Rattle.run_picture.specs.Slices.{scope_text, task_text};
 
 use scope_log::{ShownJoiner, ShownOptions};
 use scope_rules::{Actor, Cause, Name, Options, Policy, ScopeId, State, TaskId};

@@ -1,19 +1,17 @@
 //! The run as Chrome trace events, as JSON.
-ghost use Rattle.std.specs.Prelude.{◌≡◌, ◌++◌, IfOk, OnOk, Some, string_bytes};
-ghost use Rattle.scope_rules.specs.History.{forking, opening, scope_numbers, task_numbers};
-ghost use Rattle.run_picture.specs.Parts.{all, written};
-ghost use Rattle.scope_rules.specs.History.{History};
-ghost use Rattle.run_picture.specs.Trace.{IsCourseOf, IsTracedOf, arrow_from, beginning, cancel_records, closing_from, foot, forked_records, head, micros, reached_from, realm_name, record_text, result_in, scope_records, stretch_in, task_from, task_records, trace_text, wait_by};
+ghost use Rattle.run_picture.specs.{◌++◌, ◌≡◌, History, IfOk, IsCourseOf, IsTracedOf, OnOk, Some, all, arrow_from, beginning, cancel_records, closing_from, foot, forked_records, forking, head};
+ghost use Rattle.run_picture.specs.{micros, opening, reached_from, realm_name, record_text, result_in, scope_numbers, scope_records, stretch_in, string_bytes, task_from, task_numbers, task_records};
+ghost use Rattle.run_picture.specs.{trace_text, wait_by, written};
 
 use crate::arounds::{Nest, nest_of};
 use crate::cancels::is_cancelled_before;
-use crate::closings::closings_of;
-use crate::landmarks::{Firsts, Landmark, firsts_of};
+use crate::closings::{closing_at, closings_of};
 use crate::slices::{
     Arrow, Closing, Instant, Never, Point, ScopeSlice, Stretch, TaskSlice, Track, Wait, WaitSlice,
 };
-use crate::turns::{closed_at, closing_at, ended_at, started_at};
 use crate::view::time_at;
+use run_times::landmarks::{Firsts, Landmark, firsts_of};
+use run_times::{closed_at, ended_at, started_at};
 use scope_checks::Readings;
 use scope_checks::queries::cancellation;
 use scope_rules::types::records::{Forking, Opening};

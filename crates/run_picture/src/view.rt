@@ -1,7 +1,5 @@
 //! What of a run is drawn, and how large.
-ghost use Rattle.std.specs.Prelude.{◌≡◌, ◌<◌, ◌≤◌};
-ghost use Rattle.run_picture.specs.Focus.{column_of};
-ghost use Rattle.run_picture.specs.View.{first_time, high, meets, natural_width, page_width, shows, span_time, time_at, whole, x_at, x_by};
+ghost use Rattle.run_picture.specs.{◌<◌, ◌≡◌, ◌≤◌, column_of, first_time, high, meets, natural_width, page_width, shows, span_time, time_at, whole, x_at, x_by};
 
 use scope_rules::ScopeId;
 

@@ -1,18 +1,7 @@
 -- The events that the plain evaluator keeps stay the history's.
-use Rattle.std.proofs.Common.{◌≡◌, ℕ, ◌+◌, ◌<◌, ◌≤◌, List, [], ◌∷◌, ◌++◌, length, Result, Ok, Err, inl, inr, ap, sym, subst, ◌∙◌, arith}
-use Rattle.scope_rules.specs.declared.types.capacity.Limits.{Limits}
-use Rattle.scope_rules.specs.declared.types.events.Event.{Event}
-use Rattle.scope_rules.specs.Origin.{Origin}
-use Rattle.scope_rules.specs.History.{History}
-use Rattle.scope_rules.specs.Legal.{Accepts, Legal}
-use Rattle.scope_rules.specs.Load.{load, weight}
-use Rattle.scope_rules.specs.Checks.{Checked}
-use Rattle.scope_rules.specs.declared.types.refusals.Refusal.{Refusal}
-use Rattle.scope_rules.specs.Replies.{Realm, AnswersOrMemory, base_check, base_of, starting, with_event}
-use Rattle.scope_journal.specs.JournalKeeps.{JournalTable, realm_given}
-use Rattle.scope_rules.proofs.Pushing.{load_push, stack_within}
-use Rattle.scope_journal.proofs.EventRoom.{event_paid}
-use Rattle.scope_model.specs.Events.{AreEventsOf}
+use Rattle.scope_model.specs.{[], ℕ, ◌++◌, ◌+◌, ◌<◌, ◌≡◌, ◌≤◌, Accepts, AnswersOrMemory, AreEventsOf, Checked, Event, Words.History, JournalTable, Words.Legal, Limits, List, Ok, Words.Origin, Realm}
+use Rattle.scope_model.specs.{Refusal, base_check, base_of, length, load, realm_given, starting, weight, with_event}
+use Rattle.scope_model.proofs.Words.{◌∙◌, ◌∷◌, Err, Result, ap, arith, event_paid, inl, inr, load_push, stack_within, subst, sym}
 
 base_load : (b : Origin) → load (record { base = b; events = [] }) ≡ length b.binds
 unfolding load

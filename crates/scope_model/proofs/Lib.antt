@@ -1,2 +1,3 @@
 mod KeptEvents
 mod TaskPlaces
+mod Words

@@ -1,10 +1,7 @@
 -- The numbers of a range that pass a test, by their places among those that do.
-use Rattle.std.proofs.Common.{◌≡◌, ℕ, zero, suc, ◌+◌, ◌-◌, ◌<◌, ◌≤◌, Bool, true, false, cond, Some, None, List, [], ◌∷◌, ◌++◌, length, slice_get, refl, ap, sym, ◌∙◌, arith, length-append, append-nil}
-use Rattle.std.proofs.lemmas.Option.{slice_get_past, slice_get_within}
-use Rattle.std.proofs.lemmas.List.Elements.{filter-append}
-use Rattle.std.specs.List.{filter, range_with_len}
-use Rattle.scope_rules.proofs.Numbers.{range_push}
-use Rattle.scope_rules.proofs.Prefixes.{get_push}
+use Rattle.scope_model.specs.{[], ℕ, ◌++◌, ◌+◌, ◌<◌, ◌≡◌, ◌≤◌, List, None, Some, filter, length, range_with_len, slice_get}
+use Rattle.scope_model.proofs.Words.{◌-◌, ◌∙◌, ◌∷◌, Bool, ap, append-nil, arith, cond, false, filter-append, get_push, length-append, range_push, refl, slice_get_past, slice_get_within, suc, sym}
+use Rattle.scope_model.proofs.Words.{true, zero}
 
 -- one number more passes, or doesn't
 pub passed_more : (p : ℕ → Bool) (a n : ℕ) → filter p (range_with_len a (n + 1)) ≡ filter p (range_with_len a n) ++ cond (p (a + n)) ((a + n) ∷ []) []

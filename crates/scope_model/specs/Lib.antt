@@ -34,3 +34,6 @@ pub use Rattle.scope_log.specs.Counting
 pub use Rattle.scope_log.specs.LogLaws
 pub use Rattle.scope_log.specs.LogText
 pub use Rattle.scope_log.specs.Previews
+pub mod Words
+unfoldable pub use Words.*
+pub use Events.*

@@ -1,16 +1,6 @@
 -- What the program did, by what a call of it did.
-use Rattle.std.proofs.Common.{◌≡◌, ℕ, List, Result, Ok, Err, subst, arith, inl, inr}
-use Rattle.command_line.specs.CommandLine.{Says}
-use Rattle.command_line.specs.Faults.{Answers}
-use Rattle.command_line.specs.declared.faults.LineFault.{LineFault}
-use Rattle.command_line.specs.declared.faults.LineFault.TheVariants as line_fault
-use Rattle.command_line.specs.declared.lines.CommandLine.{CommandLine}
-use Rattle.scopectl.specs.Program.{IsNotUnderstood, IsRead}
-use Rattle.scopectl.specs.declared.fault.ProgramFault.TheVariants.{Memory}
-use Rattle.scopectl.specs.Acting.{Acts}
-use Rattle.scopectl.specs.Runs.{Run}
-use Rattle.scopectl.specs.Saying.{IsSaid}
-use Rattle.scopectl.specs.Texts.{line_of}
+use Rattle.scopectl.specs.{ℕ, ◌≡◌, Acts, Answers, CommandLine, Err, IsNotUnderstood, IsRead, IsSaid, LineFault, List, Memory, Ok, Result, Run, Says, line_of}
+use Rattle.scopectl.proofs.Words.{arith, inl, inr, subst}
 
 -- ---- what was read of the words
 
@@ -24,7 +14,7 @@ module _ (words : List (List ℕ)) (said : Result CommandLine LineFault) (read :
   words_ask found fault is same = subst (Answers words) same (subst (IsRead words) is read).1
 
   -- they are not understood
-  pub words_say_none : (found : LineFault) (text : _) → said ≡ Err found → found ≡ line_fault.Usage text → IsNotUnderstood words
+  pub words_say_none : (found : LineFault) (text : _) → said ≡ Err found → found ≡ LineFault.Usage text → IsNotUnderstood words
   words_say_none found text is same =
       let it = subst (λ (f : LineFault). IsRead words (Err f)) same (subst (IsRead words) is read) in
       (elim it.0 [ inl memory ↦ absurd (cc) | inr none ↦ none ], it.1)

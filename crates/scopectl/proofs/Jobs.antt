@@ -1,32 +1,9 @@
 -- What was read and written makes what a job did.
-use Rattle.std.proofs.Common.{◌≡◌, ◌≢◌, ◌≤◌, ◌∙◌, ap, arith, inl, inr, ℕ, Bool, true, false, refl, sym, subst, List, [], Option, None, Some, Result, Ok, Err, append-nil}
-use Rattle.std.proofs.KnownBytes.{Appends-trans}
-use Rattle.std.specs.Io.KnownBytes.{Appends}
-use Rattle.scope_script.specs.Running.{RunsPartly}
-use Rattle.scope_script.specs.Streams.{AppendsPart}
-use Rattle.scope_script.specs.declared.session.run.Mode.TheVariants.{Replies}
-use Rattle.scope_script.specs.declared.session.run.ScriptFault.{ScriptFault}
-use Rattle.scope_script.specs.declared.session.run.ScriptFault.TheVariants as ended
-use Rattle.script_jobs.specs.Paging.{Paged}
-use Rattle.script_jobs.specs.Jobs.{NotedPartly, ReadSome, Replayed, ReplayedNoted, ReplayedPartly, Showed, ShowedNoted}
-use Rattle.script_jobs.specs.declared.noting.NotedFault.{NotedFault}
-use Rattle.script_jobs.specs.declared.noting.NotedFault.TheVariants as noted
-use Rattle.scopectl.specs.Naming.{CameFrom, NamesFault, OfNotes}
-use Rattle.script_jobs.specs.Turns.{Turn}
-use Rattle.scopectl.specs.Runs.{Run}
-use Rattle.scopectl.specs.Program.{DidPart, DidReplay, DidWhole, FailedAtEnd, Made, Makes, ToldNotes, WroteLate, noted_text, notes_on, notes_wanted, view_of}
-use Rattle.script_jobs.specs.Notes.{notes_text}
-use Rattle.script_jobs.specs.declared.notes.Notes.{Notes}
-use Rattle.script_jobs.specs.declared.notes.Notes.TheVariants.{Refusals}
-use Rattle.scopectl.specs.Saying.{EitherBy, IsSaid, Noted, count_text, is_silent, status_of}
-use Rattle.scopectl.specs.Texts.{fault_of_noted, fault_of_run}
-use Rattle.script_jobs.specs.declared.counting.Count.{Count}
-use Rattle.command_line.specs.declared.lines.CommandLine.{CommandLine}
-use Rattle.command_line.specs.declared.lines.CommandLine.TheVariants as line
-use Rattle.command_line.specs.declared.lines.ViewOptions.{ViewOptions}
-use Rattle.command_line.specs.declared.settings.ScriptOptions.{ScriptOptions}
-use Rattle.scopectl.specs.declared.fault.ProgramFault.{ProgramFault}
-use Rattle.scopectl.specs.declared.fault.ProgramFault.TheVariants as program
+use Rattle.scopectl.specs.{[], ℕ, ◌≡◌, ◌≢◌, ◌≤◌, Appends, AppendsPart, Bool, CameFrom, CommandLine, Count, DidPart, DidReplay, DidWhole, EitherBy, Err, FailedAtEnd, IsSaid, List, Made, Makes}
+use Rattle.scopectl.specs.{NamesFault, None, Noted, NotedFault, NotedPartly, Notes, OfNotes, Ok, Option, Paged, ProgramFault, ReadSome, Refusals, Replayed, ReplayedNoted, ReplayedPartly, Replies}
+use Rattle.scopectl.specs.{Result, Run, RunsPartly, ScriptFault, ScriptOptions, Showed, ShowedNoted, Some, ToldNotes, Turn, ViewOptions, WroteLate, count_text, false, fault_of_noted, fault_of_run}
+use Rattle.scopectl.specs.{is_silent, noted_text, notes_on, notes_text, notes_wanted, status_of, true, view_of}
+use Rattle.scopectl.proofs.Words.{◌∙◌, Appends-trans, ap, append-nil, arith, inl, inr, refl, subst, sym}
 
 -- a status that is 0 or 1 is 0 if it is not 1
 pub well_ended : (status : ℕ) → status ≤ 1 → status ≢ 1 → status ≡ 0
@@ -35,15 +12,15 @@ well_ended status small well = omega arith
 -- ---- faults
 
 -- a fault of the run came from the stream that it names, or else the streams are sound
-pub came_of : (fault : ScriptFault) (ByReader ByWriter Sound : Type 0) (OfPlan : ProgramFault → Type 0) → (fault ≡ ended.Read → ByReader) → (fault ≡ ended.Write → ByWriter) → (fault ≡ ended.Memory → Sound)
+pub came_of : (fault : ScriptFault) (ByReader ByWriter Sound : Type 0) (OfPlan : ProgramFault → Type 0) → (fault ≡ ScriptFault.Read → ByReader) → (fault ≡ ScriptFault.Write → ByWriter) → (fault ≡ ScriptFault.Memory → Sound)
     → CameFrom (fault_of_run fault) ByReader ByWriter Sound OfPlan
-came_of ended.Read ByReader ByWriter Sound OfPlan read write memory = read refl
-came_of ended.Write ByReader ByWriter Sound OfPlan read write memory = write refl
-came_of ended.Memory ByReader ByWriter Sound OfPlan read write memory = memory refl
+came_of ScriptFault.Read ByReader ByWriter Sound OfPlan read write memory = read refl
+came_of ScriptFault.Write ByReader ByWriter Sound OfPlan read write memory = write refl
+came_of ScriptFault.Memory ByReader ByWriter Sound OfPlan read write memory = memory refl
 
 module _ {T : Type 0} (failed : Bool) (stream : ScriptFault) (r : Result T ScriptFault) where
   -- a stream whose fault would be told did not fail if memory was refused
-  pub sound_at : (fault : ScriptFault) → r ≡ Err fault → (failed ≡ true → r ≡ Err stream) → fault ≡ ended.Memory → (stream ≡ ended.Memory → ⊥) → failed ≡ false
+  pub sound_at : (fault : ScriptFault) → r ≡ Err fault → (failed ≡ true → r ≡ Err stream) → fault ≡ ScriptFault.Memory → (stream ≡ ScriptFault.Memory → ⊥) → failed ≡ false
   sound_at fault is tells memory other = by failed tells
     where
       by : (b : Bool) → (b ≡ true → r ≡ Err stream) → b ≡ false
@@ -59,39 +36,39 @@ module _ {T : Type 0} (failed : Bool) (stream : ScriptFault) (r : Result T Scrip
       by true tells = absurd (let e = tells refl in cc)
 
 -- the same of a replay with notes
-pub came_of_noted : (fault : NotedFault) (ByReader ByWriter Sound Failed : Type 0) → (fault ≡ noted.Run ended.Read → ByReader) → (fault ≡ noted.Run ended.Write → ByWriter) → (fault ≡ noted.Run ended.Memory → Sound) → (fault ≡ noted.Notes → Failed)
+pub came_of_noted : (fault : NotedFault) (ByReader ByWriter Sound Failed : Type 0) → (fault ≡ NotedFault.Run ScriptFault.Read → ByReader) → (fault ≡ NotedFault.Run ScriptFault.Write → ByWriter) → (fault ≡ NotedFault.Run ScriptFault.Memory → Sound) → (fault ≡ NotedFault.Notes → Failed)
     → CameFrom (fault_of_noted fault) ByReader ByWriter Sound (OfNotes Failed)
-came_of_noted (noted.Run ended.Read) ByReader ByWriter Sound Failed read write memory notes = read refl
-came_of_noted (noted.Run ended.Write) ByReader ByWriter Sound Failed read write memory notes = write refl
-came_of_noted (noted.Run ended.Memory) ByReader ByWriter Sound Failed read write memory notes = memory refl
-came_of_noted noted.Notes ByReader ByWriter Sound Failed read write memory notes = notes refl
+came_of_noted (NotedFault.Run ScriptFault.Read) ByReader ByWriter Sound Failed read write memory notes = read refl
+came_of_noted (NotedFault.Run ScriptFault.Write) ByReader ByWriter Sound Failed read write memory notes = write refl
+came_of_noted (NotedFault.Run ScriptFault.Memory) ByReader ByWriter Sound Failed read write memory notes = memory refl
+came_of_noted NotedFault.Notes ByReader ByWriter Sound Failed read write memory notes = notes refl
 
-pub sound_noted : {T : Type 0} (failed : Bool) (stream : NotedFault) (r : Result T NotedFault) (fault : NotedFault) → r ≡ Err fault → (failed ≡ true → r ≡ Err stream) → fault ≡ noted.Run ended.Memory → (stream ≡ noted.Run ended.Memory → ⊥) → failed ≡ false
+pub sound_noted : {T : Type 0} (failed : Bool) (stream : NotedFault) (r : Result T NotedFault) (fault : NotedFault) → r ≡ Err fault → (failed ≡ true → r ≡ Err stream) → fault ≡ NotedFault.Run ScriptFault.Memory → (stream ≡ NotedFault.Run ScriptFault.Memory → ⊥) → failed ≡ false
 sound_noted failed stream r fault is tells memory other = by failed tells
   where
     by : (b : Bool) → (b ≡ true → r ≡ Err stream) → b ≡ false
     by false tells = refl
     by true tells = absurd (other (let e = tells refl in cc))
 
-pub read_no_memory : noted.Run ended.Read ≡ noted.Run ended.Memory → ⊥
+pub read_no_memory : NotedFault.Run ScriptFault.Read ≡ NotedFault.Run ScriptFault.Memory → ⊥
 read_no_memory e = cc
 
-pub write_no_memory : noted.Run ended.Write ≡ noted.Run ended.Memory → ⊥
+pub write_no_memory : NotedFault.Run ScriptFault.Write ≡ NotedFault.Run ScriptFault.Memory → ⊥
 write_no_memory e = cc
 
 -- what is known of a text that is written alone may be said with less
 came_alone : (fault : ProgramFault) (ByReader ByWriter Sound Sounder : Type 0) (Plan : ProgramFault → Type 0) → (Sound → Sounder) → CameFrom fault ⊥ ByWriter Sound (λ _. ⊥) → CameFrom fault ByReader ByWriter Sounder Plan
-came_alone program.Read ByReader ByWriter Sound Sounder Plan sounds came = absurd came
-came_alone program.Write ByReader ByWriter Sound Sounder Plan sounds came = came
-came_alone program.Notes ByReader ByWriter Sound Sounder Plan sounds came = absurd came
-came_alone program.Memory ByReader ByWriter Sound Sounder Plan sounds came = sounds came
-came_alone (program.PlanLine line why) ByReader ByWriter Sound Sounder Plan sounds came = absurd came
-came_alone program.Strange ByReader ByWriter Sound Sounder Plan sounds came = absurd came
-came_alone program.Rejected ByReader ByWriter Sound Sounder Plan sounds came = absurd came
-came_alone program.Cancelled ByReader ByWriter Sound Sounder Plan sounds came = absurd came
-came_alone program.Lost ByReader ByWriter Sound Sounder Plan sounds came = absurd came
-came_alone program.NoOffer ByReader ByWriter Sound Sounder Plan sounds came = absurd came
-came_alone program.Time ByReader ByWriter Sound Sounder Plan sounds came = absurd came
+came_alone ProgramFault.Read ByReader ByWriter Sound Sounder Plan sounds came = absurd came
+came_alone ProgramFault.Write ByReader ByWriter Sound Sounder Plan sounds came = came
+came_alone ProgramFault.Notes ByReader ByWriter Sound Sounder Plan sounds came = absurd came
+came_alone ProgramFault.Memory ByReader ByWriter Sound Sounder Plan sounds came = sounds came
+came_alone (ProgramFault.PlanLine line why) ByReader ByWriter Sound Sounder Plan sounds came = absurd came
+came_alone ProgramFault.Strange ByReader ByWriter Sound Sounder Plan sounds came = absurd came
+came_alone ProgramFault.Rejected ByReader ByWriter Sound Sounder Plan sounds came = absurd came
+came_alone ProgramFault.Cancelled ByReader ByWriter Sound Sounder Plan sounds came = absurd came
+came_alone ProgramFault.Lost ByReader ByWriter Sound Sounder Plan sounds came = absurd came
+came_alone ProgramFault.NoOffer ByReader ByWriter Sound Sounder Plan sounds came = absurd came
+came_alone ProgramFault.Time ByReader ByWriter Sound Sounder Plan sounds came = absurd came
 
 pub names_alone : (said said_new : Option (List ℕ)) (failed : Bool) (ByReader ByWriter Sound Sounder : Type 0) (Plan : ProgramFault → Type 0) → (Sound → Sounder)
     → NamesFault said said_new failed ⊥ ByWriter Sound (λ _. ⊥) → NamesFault said said_new failed ByReader ByWriter Sounder Plan
@@ -110,29 +87,29 @@ noted_kept quiet count Kept Other said said_new failed weaker it = by (is_silent
     by false text = text
 
 -- the notes that the words want
-pub notes_are : (script : ScriptOptions) (explain trace : Bool) (notes : Notes) (bytes : List ℕ) → notes_wanted explain trace ≡ Some notes → notes_text notes script.limits bytes ≡ notes_on (line.Replay script explain trace) bytes
+pub notes_are : (script : ScriptOptions) (explain trace : Bool) (notes : Notes) (bytes : List ℕ) → notes_wanted explain trace ≡ Some notes → notes_text notes script.limits bytes ≡ notes_on (CommandLine.Replay script explain trace) bytes
 notes_are script explain trace notes bytes same = ap (λ (w : Option Notes). noted_text w script.limits bytes) (sym same)
 
-pub read_is_other : ended.Read ≡ ended.Memory → ⊥
+pub read_is_other : ScriptFault.Read ≡ ScriptFault.Memory → ⊥
 read_is_other e = cc
 
-pub write_is_other : ended.Write ≡ ended.Memory → ⊥
+pub write_is_other : ScriptFault.Write ≡ ScriptFault.Memory → ⊥
 write_is_other e = cc
 
 -- what is known of a plan's faults may be said with less
 pub came_weaker : (fault : ProgramFault) (ByReader ByWriter Writer Sound Sounder : Type 0) (OfPlan Plan : ProgramFault → Type 0) → (ByWriter → Writer) → (Sound → Sounder) → ((f : ProgramFault) → OfPlan f → Plan f)
     → CameFrom fault ByReader ByWriter Sound OfPlan → CameFrom fault ByReader Writer Sounder Plan
-came_weaker program.Read ByReader ByWriter Writer Sound Sounder OfPlan Plan writes sounds weaker came = came
-came_weaker program.Write ByReader ByWriter Writer Sound Sounder OfPlan Plan writes sounds weaker came = writes came
-came_weaker program.Notes ByReader ByWriter Writer Sound Sounder OfPlan Plan writes sounds weaker came = weaker program.Notes came
-came_weaker program.Memory ByReader ByWriter Writer Sound Sounder OfPlan Plan writes sounds weaker came = sounds came
-came_weaker (program.PlanLine line why) ByReader ByWriter Writer Sound Sounder OfPlan Plan writes sounds weaker came = weaker (program.PlanLine line why) came
-came_weaker program.Strange ByReader ByWriter Writer Sound Sounder OfPlan Plan writes sounds weaker came = weaker program.Strange came
-came_weaker program.Rejected ByReader ByWriter Writer Sound Sounder OfPlan Plan writes sounds weaker came = weaker program.Rejected came
-came_weaker program.Cancelled ByReader ByWriter Writer Sound Sounder OfPlan Plan writes sounds weaker came = weaker program.Cancelled came
-came_weaker program.Lost ByReader ByWriter Writer Sound Sounder OfPlan Plan writes sounds weaker came = weaker program.Lost came
-came_weaker program.NoOffer ByReader ByWriter Writer Sound Sounder OfPlan Plan writes sounds weaker came = weaker program.NoOffer came
-came_weaker program.Time ByReader ByWriter Writer Sound Sounder OfPlan Plan writes sounds weaker came = weaker program.Time came
+came_weaker ProgramFault.Read ByReader ByWriter Writer Sound Sounder OfPlan Plan writes sounds weaker came = came
+came_weaker ProgramFault.Write ByReader ByWriter Writer Sound Sounder OfPlan Plan writes sounds weaker came = writes came
+came_weaker ProgramFault.Notes ByReader ByWriter Writer Sound Sounder OfPlan Plan writes sounds weaker came = weaker ProgramFault.Notes came
+came_weaker ProgramFault.Memory ByReader ByWriter Writer Sound Sounder OfPlan Plan writes sounds weaker came = sounds came
+came_weaker (ProgramFault.PlanLine line why) ByReader ByWriter Writer Sound Sounder OfPlan Plan writes sounds weaker came = weaker (ProgramFault.PlanLine line why) came
+came_weaker ProgramFault.Strange ByReader ByWriter Writer Sound Sounder OfPlan Plan writes sounds weaker came = weaker ProgramFault.Strange came
+came_weaker ProgramFault.Rejected ByReader ByWriter Writer Sound Sounder OfPlan Plan writes sounds weaker came = weaker ProgramFault.Rejected came
+came_weaker ProgramFault.Cancelled ByReader ByWriter Writer Sound Sounder OfPlan Plan writes sounds weaker came = weaker ProgramFault.Cancelled came
+came_weaker ProgramFault.Lost ByReader ByWriter Writer Sound Sounder OfPlan Plan writes sounds weaker came = weaker ProgramFault.Lost came
+came_weaker ProgramFault.NoOffer ByReader ByWriter Writer Sound Sounder OfPlan Plan writes sounds weaker came = weaker ProgramFault.NoOffer came
+came_weaker ProgramFault.Time ByReader ByWriter Writer Sound Sounder OfPlan Plan writes sounds weaker came = weaker ProgramFault.Time came
 
 pub names_weaker : (said said_new : Option (List ℕ)) (failed : Bool) (ByReader ByWriter Sound : Type 0) (OfPlan Plan : ProgramFault → Type 0) → ((f : ProgramFault) → OfPlan f → Plan f)
     → NamesFault said said_new failed ByReader ByWriter Sound OfPlan → NamesFault said said_new failed ByReader ByWriter Sound Plan
@@ -149,15 +126,15 @@ abbrev pub turn_to : Run → Option (List ℕ) → Turn
 turn_to run mid = record { before = run.said.before; after = mid }
 
 module _ (script : ScriptOptions) (explain trace : Bool) (run : Run) where
-  pub noted_part : (mid : Option (List ℕ)) (notes : Notes) → ReplayedPartly run.taken run.written (turn_to run mid) script.limits notes → DidPart (line.Replay script explain trace) run
+  pub noted_part : (mid : Option (List ℕ)) (notes : Notes) → ReplayedPartly run.taken run.written (turn_to run mid) script.limits notes → DidPart (CommandLine.Replay script explain trace) run
   noted_part mid notes it = record { bytes = it.script; read = it.read; wrote = it.wrote }
 
-  pub replayed_part : RunsPartly run.taken.before run.taken.after run.written.before run.written.after Replies script.limits → DidPart (line.Replay script explain trace) run
+  pub replayed_part : RunsPartly run.taken.before run.taken.after run.written.before run.written.after Replies script.limits → DidPart (CommandLine.Replay script explain trace) run
   replayed_part it = record { bytes = it.script; read = it.read; wrote = it.replied }
 
 -- ---- a view
 
-pub made : (v : ViewOptions) (script : ScriptOptions) (lenient explain : Bool) (unread unread_new : Option (List ℕ)) (text : List ℕ) (count : Count) → Showed unread unread_new script.limits (view_of v) text count → Made (Makes (line.Show script v lenient explain)) unread unread_new text
+pub made : (v : ViewOptions) (script : ScriptOptions) (lenient explain : Bool) (unread unread_new : Option (List ℕ)) (text : List ℕ) (count : Count) → Showed unread unread_new script.limits (view_of v) text count → Made (Makes (CommandLine.Show script v lenient explain)) unread unread_new text
 made v script lenient explain unread unread_new text count shown = record {
   bytes = shown.script;
   whole = record { read = shown.read; all = shown.all };
@@ -185,24 +162,24 @@ module _ (command : CommandLine) (run : Run) (mid : Option (List ℕ)) (text : L
   late wrote fails = inr (failed_at_end wrote fails)
 
 module _ (v : ViewOptions) (script : ScriptOptions) (lenient explain : Bool) (run : Run) where
-  pub view_told_part : (mid : Option (List ℕ)) (text : List ℕ) → Made (Makes (line.Show script v lenient explain)) run.taken.before run.taken.after text → Appends run.written.before mid [] → AppendsPart mid run.written.after text → run.ByWriter
-      → DidPart (line.Show script v lenient explain) run
+  pub view_told_part : (mid : Option (List ℕ)) (text : List ℕ) → Made (Makes (CommandLine.Show script v lenient explain)) run.taken.before run.taken.after text → Appends run.written.before mid [] → AppendsPart mid run.written.after text → run.ByWriter
+      → DidPart (CommandLine.Show script v lenient explain) run
   view_told_part mid text made unwritten wrote fails = record {
     bytes = made.bytes;
     read = made.whole.read;
-    wrote = late (line.Show script v lenient explain) run mid text made unwritten wrote fails;
+    wrote = late (CommandLine.Show script v lenient explain) run mid text made unwritten wrote fails;
   }
 
-  pub view_stopped : ReadSome run.taken.before run.taken.after → Appends run.written.before run.written.after [] → DidPart (line.Show script v lenient explain) run
+  pub view_stopped : ReadSome run.taken.before run.taken.after → Appends run.written.before run.written.after [] → DidPart (CommandLine.Show script v lenient explain) run
   view_stopped some unwritten = record { bytes = some.bytes; read = some.read; wrote = inl unwritten }
 
   -- the same, with notes on the lines
-  pub view_stopped_noted : (mid : Option (List ℕ)) → NotedPartly run.taken (turn_to run mid) script.limits Refusals → Appends run.written.before run.written.after [] → DidPart (line.Show script v lenient explain) run
+  pub view_stopped_noted : (mid : Option (List ℕ)) → NotedPartly run.taken (turn_to run mid) script.limits Refusals → Appends run.written.before run.written.after [] → DidPart (CommandLine.Show script v lenient explain) run
   view_stopped_noted mid some unwritten = record { bytes = some.script; read = some.read; wrote = inl unwritten }
 
 -- ---- a page
 
-pub page_made : (script : ScriptOptions) (lenient : Bool) (unread unread_new : Option (List ℕ)) (text : List ℕ) (count : Count) → Paged unread unread_new script.limits text count → Made (Makes (line.Page script lenient)) unread unread_new text
+pub page_made : (script : ScriptOptions) (lenient : Bool) (unread unread_new : Option (List ℕ)) (text : List ℕ) (count : Count) → Paged unread unread_new script.limits text count → Made (Makes (CommandLine.Page script lenient)) unread unread_new text
 page_made script lenient unread unread_new text count paged = record {
   bytes = paged.script;
   whole = record { read = paged.read; all = paged.all };
@@ -210,15 +187,15 @@ page_made script lenient unread unread_new text count paged = record {
 }
 
 module _ (script : ScriptOptions) (lenient : Bool) (run : Run) where
-  pub page_told_part : (mid : Option (List ℕ)) (text : List ℕ) → Made (Makes (line.Page script lenient)) run.taken.before run.taken.after text → Appends run.written.before mid [] → AppendsPart mid run.written.after text → run.ByWriter
-      → DidPart (line.Page script lenient) run
+  pub page_told_part : (mid : Option (List ℕ)) (text : List ℕ) → Made (Makes (CommandLine.Page script lenient)) run.taken.before run.taken.after text → Appends run.written.before mid [] → AppendsPart mid run.written.after text → run.ByWriter
+      → DidPart (CommandLine.Page script lenient) run
   page_told_part mid text made unwritten wrote fails = record {
     bytes = made.bytes;
     read = made.whole.read;
-    wrote = late (line.Page script lenient) run mid text made unwritten wrote fails;
+    wrote = late (CommandLine.Page script lenient) run mid text made unwritten wrote fails;
   }
 
-  pub page_stopped : ReadSome run.taken.before run.taken.after → Appends run.written.before run.written.after [] → DidPart (line.Page script lenient) run
+  pub page_stopped : ReadSome run.taken.before run.taken.after → Appends run.written.before run.written.after [] → DidPart (CommandLine.Page script lenient) run
   page_stopped some unwritten = record { bytes = some.bytes; read = some.read; wrote = inl unwritten }
 
 -- ---- a command that was done, with what was said of the lines that were refused
@@ -249,7 +226,7 @@ module _ (run : Run) (result : ℕ) (script : ScriptOptions) (count : Count) whe
 
   module _ (v : ViewOptions) (lenient : Bool) (status : result ≡ status_of script.strict lenient count) (mid : Option (List ℕ)) (text : List ℕ) (unwritten : Appends run.written.before mid []) (wrote : Appends mid run.written.after text) where
     -- without notes
-    pub view_whole : Noted script.quiet count run.ErrorsKept run.said.before run.said.after run.errors_failed → Showed run.taken.before run.taken.after script.limits (view_of v) text count → DidWhole (line.Show script v lenient false) run result
+    pub view_whole : Noted script.quiet count run.ErrorsKept run.said.before run.said.after run.errors_failed → Showed run.taken.before run.taken.after script.limits (view_of v) text count → DidWhole (CommandLine.Show script v lenient false) run result
     view_whole noted it = record {
       did = record { bytes = it.script; read = it.read; all = it.all; text = text; makes = it.is; wrote = Appends-trans run.written.before mid run.written.after [] text unwritten wrote };
       noted = subst (λ (t : Count). Noted script.quiet t run.ErrorsKept run.said.before run.said.after run.errors_failed) it.counted noted;
@@ -258,7 +235,7 @@ module _ (run : Run) (result : ℕ) (script : ScriptOptions) (count : Count) whe
 
     -- with notes on the refused lines
     pub view_noted : (said : Option (List ℕ)) → Noted script.quiet count (run.said.after ≡ said) said run.said.after run.errors_failed
-        → ShowedNoted run.taken (turn_to run said) script.limits (view_of v) Refusals text count → DidWhole (line.Show script v lenient true) run result
+        → ShowedNoted run.taken (turn_to run said) script.limits (view_of v) Refusals text count → DidWhole (CommandLine.Show script v lenient true) run result
     view_noted said noted it = record {
       did = record { bytes = it.shown.script; read = it.shown.read; all = it.shown.all; text = text; makes = it.shown.is; wrote = Appends-trans run.written.before mid run.written.after [] text unwritten wrote };
       noted = record {
@@ -270,7 +247,7 @@ module _ (run : Run) (result : ℕ) (script : ScriptOptions) (count : Count) whe
     }
 
   module _ (lenient : Bool) (status : result ≡ status_of script.strict lenient count) (mid : Option (List ℕ)) (text : List ℕ) (unwritten : Appends run.written.before mid []) (wrote : Appends mid run.written.after text) where
-    pub page_whole : Noted script.quiet count run.ErrorsKept run.said.before run.said.after run.errors_failed → Paged run.taken.before run.taken.after script.limits text count → DidWhole (line.Page script lenient) run result
+    pub page_whole : Noted script.quiet count run.ErrorsKept run.said.before run.said.after run.errors_failed → Paged run.taken.before run.taken.after script.limits text count → DidWhole (CommandLine.Page script lenient) run result
     page_whole noted it = record {
       did = record { bytes = it.script; read = it.read; all = it.all; text = text; makes = it.is; wrote = Appends-trans run.written.before mid run.written.after [] text unwritten wrote };
       noted = subst (λ (t : Count). Noted script.quiet t run.ErrorsKept run.said.before run.said.after run.errors_failed) it.counted noted;

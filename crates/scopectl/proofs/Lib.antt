@@ -1,3 +1,4 @@
 mod Jobs
 pub mod Acted
 mod Quoted
+mod Words

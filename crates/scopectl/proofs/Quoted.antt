@@ -1,27 +1,9 @@
 -- Why a plan that was read has no answer.
-use Rattle.std.proofs.Common.{◌≡◌, ℕ, Bool, true, false, not, is_some, ◌||◌, ◌++◌, Option, List, Result, Ok, Err, inl, inr, refl, subst, sym, take, ◌+◌, ◌<◌, ◌≤◌, add-one, ap, arith, drop, length, nat_lt, Some, None, slice_get}
-use Rattle.std.proofs.Math.Seq.{drop-cons}
-use Rattle.std.proofs.lemmas.List.{append-nil, drop_all}
-use Rattle.std.proofs.lemmas.Option.{get_or_from_slice_get, slice_get-get_or, slice_get_within}
-use Rattle.std.specs.List.{list_any}
-use Rattle.std.specs.Io.KnownBytes.{Consumes, IsAtEnd}
-use Rattle.std.proofs.KnownBytes.{Consumes-trans}
-use Rattle.std.specs.Prelude.{◌⊎◌, IfOk, OnErr}
-use Rattle.quote_plan.specs.Allowed.{AllowedText, AllowedTextBy, PartText}
-use Rattle.quote_plan.specs.AnswerText.{answer_text}
-use Rattle.quote_plan.specs.Passing.{NamesLine}
-use Rattle.quote_plan.specs.Plans.{PlanValue}
-use Rattle.quote_plan.specs.declared.answers.Answer.{Answer}
-use Rattle.quote_plan.specs.declared.reading.PlanFault.{PlanFault}
-use Rattle.quote_plan.specs.declared.reading.PlanFault.TheVariants as plan_fault
-use Rattle.command_line.specs.declared.settings.Delay.{Delay}
-use Rattle.quote_gateway.specs.declared.faults.GatewayFault.{GatewayFault}
-use Rattle.quote_gateway.specs.declared.faults.GatewayFault.TheVariants as service
-use Rattle.scopectl.specs.declared.fault.ProgramFault.{ProgramFault}
-use Rattle.scopectl.specs.declared.fault.ProgramFault.TheVariants as program
-use Rattle.scopectl.specs.Naming.{CameFrom, IsBadLine, IsOfPlan, MayEndPlan, is_timed}
-use Rattle.scopectl.specs.Program.{ReadPlan, has_late}
-use Rattle.scopectl.specs.Texts.{fault_of_plan, fault_of_service}
+use Rattle.scopectl.specs.{ℕ, ◌++◌, ◌+◌, ◌<◌, ◌||◌, ◌≡◌, ◌≤◌, ◌⊎◌, AllowedText, AllowedTextBy, Answer, Bool, CameFrom, Consumes, Delay, Err, GatewayFault, IfOk, IsAtEnd, IsBadLine, IsOfPlan, List}
+use Rattle.scopectl.specs.{MayEndPlan, NamesLine, None, Ok, OnErr, Option, PartText, PlanFault, PlanValue, ProgramFault, ReadPlan, Result, Some, answer_text, drop, false, fault_of_plan}
+use Rattle.scopectl.specs.{fault_of_service, has_late, is_some, is_timed, length, list_any, nat_lt, not, true}
+use Rattle.scopectl.proofs.Words.{Consumes-trans, add-one, ap, append-nil, arith, drop-cons, drop_all, get_or_from_slice_get, inl, inr, refl, slice_get, slice_get-get_or, slice_get_within, subst, sym}
+use Rattle.scopectl.proofs.Words.{take}
 
 -- by a deadline the plan allows the line, or it says some of the prices
 pub allowed_by : (plan : PlanValue) (deadline : ℕ) (reading : Option ℕ) (a : Answer) → AllowedTextBy plan deadline reading (answer_text a) → AllowedText plan (answer_text a) ⊎ PartText plan (answer_text a)
@@ -29,17 +11,17 @@ allowed_by plan deadline reading a allowed = elim allowed [ inl whole ↦ inl wh
 
 -- such a fault at the plan that was read is one of the plan
 pub of_plan : (deadline : Option ℕ) (after : List Delay) (plan : PlanValue) (unread unread_new : Option (List ℕ)) (fault : ProgramFault) (ByReader Sound : Type 0) → Sound → ReadPlan unread unread_new plan → MayEndPlan (is_timed deadline after) (not (has_late after plan)) fault → CameFrom fault ByReader ⊥ Sound (IsOfPlan deadline after unread unread_new)
-of_plan deadline after plan unread unread_new program.Memory ByReader Sound sound read it = sound
-of_plan deadline after plan unread unread_new program.Time ByReader Sound sound read it = record { plan = plan; read = read; may = it }
-of_plan deadline after plan unread unread_new (program.PlanLine line why) ByReader Sound sound read it = absurd it
-of_plan deadline after plan unread unread_new program.Read ByReader Sound sound read it = absurd it
-of_plan deadline after plan unread unread_new program.Write ByReader Sound sound read it = absurd it
-of_plan deadline after plan unread unread_new program.Notes ByReader Sound sound read it = absurd it
-of_plan deadline after plan unread unread_new program.Strange ByReader Sound sound read it = absurd it
-of_plan deadline after plan unread unread_new program.Rejected ByReader Sound sound read it = record { plan = plan; read = read; may = it }
-of_plan deadline after plan unread unread_new program.Cancelled ByReader Sound sound read it = record { plan = plan; read = read; may = it }
-of_plan deadline after plan unread unread_new program.NoOffer ByReader Sound sound read it = record { plan = plan; read = read; may = it }
-of_plan deadline after plan unread unread_new program.Lost ByReader Sound sound read it = record { plan = plan; read = read; may = it }
+of_plan deadline after plan unread unread_new ProgramFault.Memory ByReader Sound sound read it = sound
+of_plan deadline after plan unread unread_new ProgramFault.Time ByReader Sound sound read it = record { plan = plan; read = read; may = it }
+of_plan deadline after plan unread unread_new (ProgramFault.PlanLine line why) ByReader Sound sound read it = absurd it
+of_plan deadline after plan unread unread_new ProgramFault.Read ByReader Sound sound read it = absurd it
+of_plan deadline after plan unread unread_new ProgramFault.Write ByReader Sound sound read it = absurd it
+of_plan deadline after plan unread unread_new ProgramFault.Notes ByReader Sound sound read it = absurd it
+of_plan deadline after plan unread unread_new ProgramFault.Strange ByReader Sound sound read it = absurd it
+of_plan deadline after plan unread unread_new ProgramFault.Rejected ByReader Sound sound read it = record { plan = plan; read = read; may = it }
+of_plan deadline after plan unread unread_new ProgramFault.Cancelled ByReader Sound sound read it = record { plan = plan; read = read; may = it }
+of_plan deadline after plan unread unread_new ProgramFault.NoOffer ByReader Sound sound read it = record { plan = plan; read = read; may = it }
+of_plan deadline after plan unread unread_new ProgramFault.Lost ByReader Sound sound read it = record { plan = plan; read = read; may = it }
 
 -- ---- the offers from a place on
 
@@ -58,30 +40,30 @@ module _ {X : Type 0} (p : X → Bool) (xs : List X) (place : ℕ) where
   past_none d within none = let some = slice_get-get_or xs place d within in cc
 
 -- an offer that the plan lacks, and a time that the system does not give
-pub lacks_offer : (timed : Bool) (after : List Delay) (plan : PlanValue) (has : Bool) → has ≡ has_late after plan → not has ≡ true → MayEndPlan timed (not (has_late after plan)) program.NoOffer
+pub lacks_offer : (timed : Bool) (after : List Delay) (plan : PlanValue) (has : Bool) → has ≡ has_late after plan → not has ≡ true → MayEndPlan timed (not (has_late after plan)) ProgramFault.NoOffer
 lacks_offer timed after plan has is lacks = subst (λ (b : Bool). not b ≡ true) is lacks
 
 or_true : (a b : Bool) → b ≡ true → (a || b) ≡ true
 or_true true b is = refl
 or_true false b is = is
 
-pub lacks_time : (deadline : Option ℕ) (after : List Delay) (lacks : Bool) (fault : ProgramFault) → (fault ≡ program.Memory) ⊎ ((fault ≡ program.Time) × (nat_lt 0 (length after) ≡ true)) → MayEndPlan (is_timed deadline after) lacks fault
+pub lacks_time : (deadline : Option ℕ) (after : List Delay) (lacks : Bool) (fault : ProgramFault) → (fault ≡ ProgramFault.Memory) ⊎ ((fault ≡ ProgramFault.Time) × (nat_lt 0 (length after) ≡ true)) → MayEndPlan (is_timed deadline after) lacks fault
 lacks_time deadline after lacks fault (inl memory) = subst (MayEndPlan (is_timed deadline after) lacks) (sym memory) tt
 lacks_time deadline after lacks fault (inr it) = subst (MayEndPlan (is_timed deadline after) lacks) (sym it.0) (or_true (is_some deadline) (nat_lt 0 (length after)) it.1)
 
 -- a bad line is one too
 pub of_line : (deadline : Option ℕ) (after : List Delay) (unread unread_new : Option (List ℕ)) (fault : ProgramFault) (ByReader Sound : Type 0) → CameFrom fault ByReader ⊥ Sound (IsBadLine unread unread_new) → CameFrom fault ByReader ⊥ Sound (IsOfPlan deadline after unread unread_new)
-of_line deadline after unread unread_new program.Memory ByReader Sound it = it
-of_line deadline after unread unread_new program.Time ByReader Sound it = absurd it
-of_line deadline after unread unread_new (program.PlanLine line why) ByReader Sound it = it
-of_line deadline after unread unread_new program.Read ByReader Sound it = it
-of_line deadline after unread unread_new program.Write ByReader Sound it = absurd it
-of_line deadline after unread unread_new program.Notes ByReader Sound it = absurd it
-of_line deadline after unread unread_new program.Strange ByReader Sound it = absurd it
-of_line deadline after unread unread_new program.Rejected ByReader Sound it = absurd it
-of_line deadline after unread unread_new program.Cancelled ByReader Sound it = absurd it
-of_line deadline after unread unread_new program.NoOffer ByReader Sound it = absurd it
-of_line deadline after unread unread_new program.Lost ByReader Sound it = absurd it
+of_line deadline after unread unread_new ProgramFault.Memory ByReader Sound it = it
+of_line deadline after unread unread_new ProgramFault.Time ByReader Sound it = absurd it
+of_line deadline after unread unread_new (ProgramFault.PlanLine line why) ByReader Sound it = it
+of_line deadline after unread unread_new ProgramFault.Read ByReader Sound it = it
+of_line deadline after unread unread_new ProgramFault.Write ByReader Sound it = absurd it
+of_line deadline after unread unread_new ProgramFault.Notes ByReader Sound it = absurd it
+of_line deadline after unread unread_new ProgramFault.Strange ByReader Sound it = absurd it
+of_line deadline after unread unread_new ProgramFault.Rejected ByReader Sound it = absurd it
+of_line deadline after unread unread_new ProgramFault.Cancelled ByReader Sound it = absurd it
+of_line deadline after unread unread_new ProgramFault.NoOffer ByReader Sound it = absurd it
+of_line deadline after unread unread_new ProgramFault.Lost ByReader Sound it = absurd it
 
 pub both_ok : {T E : Type 0} (r : Result T E) (P Q : T → Type 0) → IfOk r P → IfOk r Q → IfOk r (λ x. P x × Q x)
 both_ok (Ok x) P Q p q = (p, q)
@@ -102,13 +84,13 @@ at_end a b c bytes piece n none before last =
 module _ (unread unread_new : Option (List ℕ)) (bytes : List ℕ) (read : Consumes unread unread_new bytes) (ByReader Sound : Type 0) (sound : Sound) where
   -- the fault comes, whatever comes after the bytes
   pub bad_early : (fault : PlanFault) → ((more : List ℕ) → NamesLine (bytes ++ more) fault) → CameFrom (fault_of_plan fault) ByReader ⊥ Sound (IsBadLine unread unread_new)
-  bad_early plan_fault.Memory names = sound
-  bad_early (plan_fault.Word line why) names = record { bytes = bytes; read = read; bad = inr names }
+  bad_early PlanFault.Memory names = sound
+  bad_early (PlanFault.Word line why) names = record { bytes = bytes; read = read; bad = inr names }
 
   -- the fault is of all bytes
   pub bad_at_end : (fault : PlanFault) → IsAtEnd unread_new → NamesLine bytes fault → CameFrom (fault_of_plan fault) ByReader ⊥ Sound (IsBadLine unread unread_new)
-  bad_at_end plan_fault.Memory end names = sound
-  bad_at_end (plan_fault.Word line why) end names = record { bytes = bytes; read = read; bad = inl (end, names) }
+  bad_at_end PlanFault.Memory end names = sound
+  bad_at_end (PlanFault.Word line why) end names = record { bytes = bytes; read = read; bad = inl (end, names) }
 
 -- ---- a plan that was served in a realm which could be looked at
 
@@ -117,9 +99,9 @@ seen_ok {T} {E} {F} (Ok a) found P is it = subst (λ (f : Result T F). IfOk f P)
 seen_ok (Err e) found P is it = tt
 
 -- a cause of the service's that is not `strange` is one that may come at a plan
-pub may_end_unless : (timed lacks : Bool) (why : GatewayFault) → (why ≡ service.Strange → ⊥) → MayEndPlan timed lacks (fault_of_service why)
-may_end_unless timed lacks service.Memory other = tt
-may_end_unless timed lacks service.Strange other = absurd (other refl)
-may_end_unless timed lacks service.Rejected other = tt
-may_end_unless timed lacks service.Cancelled other = tt
-may_end_unless timed lacks service.Lost other = tt
+pub may_end_unless : (timed lacks : Bool) (why : GatewayFault) → (why ≡ GatewayFault.Strange → ⊥) → MayEndPlan timed lacks (fault_of_service why)
+may_end_unless timed lacks GatewayFault.Memory other = tt
+may_end_unless timed lacks GatewayFault.Strange other = absurd (other refl)
+may_end_unless timed lacks GatewayFault.Rejected other = tt
+may_end_unless timed lacks GatewayFault.Cancelled other = tt
+may_end_unless timed lacks GatewayFault.Lost other = tt

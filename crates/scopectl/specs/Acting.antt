@@ -1,9 +1,6 @@
 -- All that is promised of a run of the program: of its status, and of what it did with its streams.
-use Rattle.std.specs.Prelude.{◌≡◌, ◌≢◌, ℕ, ◌≤◌, ◌⊎◌, List}
-use Rattle.scopectl.specs.Naming.{NamesAny}
-use Rattle.scopectl.specs.Saying.{SaidSome}
-use Rattle.scopectl.specs.Program.{DidAsSaid, DidPartly, GaveText, GaveTextPartly, IsNotUnderstood}
-use Rattle.scopectl.specs.Runs.{Run}
+use Rattle.scopectl.specs.Words.{ℕ, ◌≡◌, ◌≢◌, ◌≤◌, ◌⊎◌, List}
+use Rattle.scopectl.specs.{Naming.NamesAny, Program.DidAsSaid, Program.DidPartly, Program.GaveText, Program.GaveTextPartly, Program.IsNotUnderstood, Runs.Run, Saying.SaidSome}
 
 -- the text that the words ask for was written, and nothing read or said; or all that they say was done
 abbrev pub DidAll : (words : List (List ℕ)) → Run → (result : ℕ) → Type 0

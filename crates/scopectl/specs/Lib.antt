@@ -4,3 +4,11 @@ pub mod Program
 pub mod Naming
 pub mod Acting
 pub mod Runs
+pub mod Words
+unfoldable pub use Words.*
+pub use Acting.*
+pub use Naming.*
+unfoldable pub use Program.*
+pub use Runs.*
+pub use Saying.*
+pub use Texts.*

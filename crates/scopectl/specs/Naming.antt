@@ -1,24 +1,7 @@
 -- What a fault that is named on standard error says of the streams and of the plan.
-use Rattle.std.specs.Prelude.{◌≡◌, ◌⊎◌, ◌++◌, ◌||◌, nat_lt, length, ⊤, ℕ, Bool, true, false, not, Option, Some, List, is_some}
-use Rattle.quote_plan.specs.Passing.{NamesLine}
-use Rattle.quote_plan.specs.Plans.{PlanValue}
-use Rattle.quote_plan.specs.declared.reading.PlanFault.TheVariants as plan_fault
-use Rattle.quote_plan.specs.declared.whys.PlanWhy.{PlanWhy}
-use Rattle.std.specs.Io.KnownBytes.{Consumes, IsAtEnd}
-use Rattle.command_line.specs.declared.lines.CommandLine.TheVariants as line
-use Rattle.command_line.specs.declared.settings.Delay.{Delay}
-use Rattle.scopectl.specs.declared.fault.ProgramFault.{ProgramFault}
-use Rattle.scopectl.specs.declared.fault.ProgramFault.TheVariants as program
-use Rattle.command_line.specs.CommandLine.{Says}
-use Rattle.command_line.specs.declared.lines.CommandLine.{CommandLine}
-use Rattle.scope_script.specs.Streams.{AppendsPart}
-use Rattle.script_jobs.specs.declared.notes.Notes.{Notes}
-use Rattle.command_line.specs.declared.settings.ScriptOptions.{ScriptOptions}
-use Rattle.scopectl.specs.Program.{ReadPlan, has_late, notes_on, notes_wanted}
-use Rattle.scopectl.specs.Runs.{HasEnded, Run}
-use Rattle.scope_script.specs.declared.streams.watched.Watched.{Watched}
-use Rattle.scopectl.specs.Saying.{IsSaid}
-use Rattle.scopectl.specs.Texts.{line_of}
+use Rattle.scopectl.specs.Words.{ℕ, ⊤, ◌++◌, ◌||◌, ◌≡◌, ◌⊎◌, AppendsPart, Bool, CommandLine, Consumes, Delay, IsAtEnd, List, NamesLine, Notes, Option, PlanFault, PlanValue, PlanWhy, ProgramFault}
+use Rattle.scopectl.specs.Words.{Says, ScriptOptions, Some, Watched, false, is_some, length, nat_lt, not, true}
+use Rattle.scopectl.specs.{Program.ReadPlan, Program.has_late, Program.notes_on, Program.notes_wanted, Runs.HasEnded, Runs.Run, Saying.IsSaid, Texts.line_of}
 
 -- ---- a plan's faults
 
@@ -29,12 +12,12 @@ is_timed deadline after = is_some deadline || nat_lt 0 (length after)
 -- what may come at a plan that was read: the jobs are never strange, `time` comes only where it is asked for, and that
 -- an offer is missing only if the plan lacks one that is to take time
 abbrev pub MayEndPlan : (timed lacks : Bool) → ProgramFault → Type 0
-MayEndPlan timed lacks program.Rejected = ⊤
-MayEndPlan timed lacks program.Cancelled = ⊤
-MayEndPlan timed lacks program.Lost = ⊤
-MayEndPlan timed lacks program.Memory = ⊤
-MayEndPlan timed lacks program.Time = timed ≡ true
-MayEndPlan timed lacks program.NoOffer = lacks ≡ true
+MayEndPlan timed lacks ProgramFault.Rejected = ⊤
+MayEndPlan timed lacks ProgramFault.Cancelled = ⊤
+MayEndPlan timed lacks ProgramFault.Lost = ⊤
+MayEndPlan timed lacks ProgramFault.Memory = ⊤
+MayEndPlan timed lacks ProgramFault.Time = timed ≡ true
+MayEndPlan timed lacks ProgramFault.NoOffer = lacks ≡ true
 MayEndPlan timed lacks _ = ⊥
 
 -- the first bad line of what was read is this one, for this cause: of all bytes, or whatever comes after those that were
@@ -42,11 +25,11 @@ MayEndPlan timed lacks _ = ⊥
 pub record HasBadLine (unread unread_new : Option (List ℕ)) (line : ℕ) (why : PlanWhy) : Type 0 where
   pub bytes : List ℕ
   pub read : Consumes unread unread_new bytes
-  pub bad : (IsAtEnd unread_new × NamesLine bytes (plan_fault.Word line why)) ⊎ ((more : List ℕ) → NamesLine (bytes ++ more) (plan_fault.Word line why))
+  pub bad : (IsAtEnd unread_new × NamesLine bytes (PlanFault.Word line why)) ⊎ ((more : List ℕ) → NamesLine (bytes ++ more) (PlanFault.Word line why))
 
 -- the fault is a bad line
 abbrev pub IsBadLine : (unread unread_new : Option (List ℕ)) → ProgramFault → Type 0
-IsBadLine unread unread_new (program.PlanLine line why) = HasBadLine unread unread_new line why
+IsBadLine unread unread_new (ProgramFault.PlanLine line why) = HasBadLine unread unread_new line why
 IsBadLine unread unread_new other = ⊥
 
 -- all bytes were read, they are a plan, and the fault is one that may come then
@@ -57,12 +40,12 @@ pub record IsUnanswered (deadline : Option ℕ) (after : List Delay) (unread unr
 
 -- the plan that is read has the bad line, or else has no answer
 abbrev pub IsOfPlan : (deadline : Option ℕ) (after : List Delay) (unread unread_new : Option (List ℕ)) → ProgramFault → Type 0
-IsOfPlan deadline after unread unread_new (program.PlanLine line why) = HasBadLine unread unread_new line why
+IsOfPlan deadline after unread unread_new (ProgramFault.PlanLine line why) = HasBadLine unread unread_new line why
 IsOfPlan deadline after unread unread_new other = IsUnanswered deadline after unread unread_new other
 
 -- the command is a quote, and the fault is of its plan
 abbrev pub OfQuote : CommandLine → (unread unread_new : Option (List ℕ)) → ProgramFault → Type 0
-OfQuote (line.Quote deadline after tree_after) unread unread_new fault = IsOfPlan deadline after.items unread unread_new fault
+OfQuote (CommandLine.Quote deadline after tree_after) unread unread_new fault = IsOfPlan deadline after.items unread unread_new fault
 OfQuote command unread unread_new fault = ⊥
 
 -- the words say a quote, and the fault is of its plan
@@ -76,9 +59,9 @@ pub record IsOfQuote (words : List (List ℕ)) (unread unread_new : Option (List
 -- `read` comes only if the reader ended the run, `write` only if the writer did, `memory` only if the streams
 -- are sound, and any other only of a plan
 abbrev pub CameFrom : ProgramFault → (ByReader ByWriter Sound : Type 0) → (OfPlan : ProgramFault → Type 0) → Type 0
-CameFrom program.Read ByReader ByWriter Sound OfPlan = ByReader
-CameFrom program.Write ByReader ByWriter Sound OfPlan = ByWriter
-CameFrom program.Memory ByReader ByWriter Sound OfPlan = Sound
+CameFrom ProgramFault.Read ByReader ByWriter Sound OfPlan = ByReader
+CameFrom ProgramFault.Write ByReader ByWriter Sound OfPlan = ByWriter
+CameFrom ProgramFault.Memory ByReader ByWriter Sound OfPlan = Sound
 CameFrom other ByReader ByWriter Sound OfPlan = OfPlan other
 
 -- the fault came while this reader alone was used
@@ -110,7 +93,7 @@ NamesOfPlan deadline after run = Names run (IsOfPlan deadline after run.taken.be
 
 -- standard error failed, if notes were to be written, or the fault came of none of the others
 abbrev pub OfNotes : (Failed : Type 0) → ProgramFault → Type 0
-OfNotes Failed program.Notes = Failed
+OfNotes Failed ProgramFault.Notes = Failed
 OfNotes Failed other = ⊥
 
 -- one line was said, which names a fault that came, behind a beginning of the notes on what the command read
@@ -123,7 +106,7 @@ pub record NamesAfter (command : CommandLine) (run : Run) : Type 0 where
 
 -- so of a replay with these notes
 abbrev pub NamesAfterNotes : (notes : Notes) → ScriptOptions → Run → Type 0
-NamesAfterNotes notes script run = (explain trace : Bool) → notes_wanted explain trace ≡ Some notes → NamesAfter (line.Replay script explain trace) run
+NamesAfterNotes notes script run = (explain trace : Bool) → notes_wanted explain trace ≡ Some notes → NamesAfter (CommandLine.Replay script explain trace) run
 
 -- one line was said, which names a fault that came: alone, or behind notes on what the command read
 abbrev pub NamesOf : (command : CommandLine) → Run → Type 0

@@ -1,50 +1,11 @@
 -- What the program has done.
-use Rattle.std.specs.Prelude.{◌≡◌, ◌⊎◌, ◌++◌, ◌-◌, ◌&&◌, ℕ, Bool, true, false, Option, None, Some, Result, Ok, Err, List, [], ◌∷◌, unwrap_or}
-use Rattle.std.specs.Io.KnownBytes.{Appends, Consumes, IsAtEnd}
-use Rattle.scope_rules.specs.declared.types.capacity.Limits.{Limits}
-use Rattle.scope_script.specs.Sessions.{replies_of, realm_of_script}
-use Rattle.scope_script.specs.Tallies.{no_refusals}
-use Rattle.script_jobs.specs.Counts.{count_of_script}
-use Rattle.script_jobs.specs.declared.counting.Count.{Count}
-use Rattle.script_jobs.specs.Notes.{notes_text}
-use Rattle.script_jobs.specs.Made.{IsScript}
-use Rattle.script_jobs.specs.declared.notes.Notes.{Notes}
-use Rattle.script_jobs.specs.declared.notes.Notes.TheVariants as notes
-use Rattle.scopectl.specs.Runs.{Run}
-use Rattle.scopectl.specs.Saying.{Noted, SaidNotes, status_of}
-use Rattle.run_picture.specs.Page.{IsPageOf}
-use Rattle.script_jobs.specs.Jobs.{shown_text}
-use Rattle.script_jobs.specs.Times.{stamps_of_script}
-use Rattle.script_jobs.specs.declared.showing.View.{View}
-use Rattle.script_jobs.specs.declared.showing.View.TheVariants as view
-use Rattle.scope_script.specs.Streams.{AppendsPart}
-use Rattle.quote_plan.specs.Allowed.{AllowedText, PartText}
-use Rattle.quote_plan.specs.PlanReading.{SayPlan, lines_of}
-use Rattle.quote_plan.specs.Plans.{PlanValue}
-use Rattle.command_line.specs.declared.lines.CommandLine.{CommandLine}
-use Rattle.command_line.specs.declared.lines.CommandLine.TheVariants as line
-use Rattle.command_line.specs.declared.lines.ViewOptions.{ViewOptions}
-use Rattle.command_line.specs.declared.lines.ViewOptions.TheVariants as asked
-use Rattle.command_line.specs.declared.settings.Delay.{Delay}
-use Rattle.command_line.specs.declared.settings.DumpFormat.TheVariants as asked_format
-use Rattle.command_line.specs.declared.settings.PictureOptions.{PictureOptions}
-use Rattle.command_line.specs.declared.settings.TreeOptions.{TreeOptions}
-use Rattle.command_line.specs.declared.settings.TreeOptions.TheVariants as tree
-use Rattle.run_picture.specs.View.{whole}
-use Rattle.script_jobs.specs.declared.between.Between.{Between}
-use Rattle.run_picture.specs.declared.view.View.{View as Seen}
-use Rattle.scope_rules.specs.declared.types.capacity.TheConstants.{LEVEL_LIMIT}
-use Rattle.tree_dump.specs.declared.parts.TreePart.{TreePart}
-use Rattle.tree_dump.specs.declared.parts.TreePart.TheVariants as part
-use Rattle.scope_rules.specs.Names.{same_name}
-use Rattle.scope_rules.specs.declared.types.names.Name.{Name}
-use Rattle.std.specs.List.{list_any}
-use Rattle.command_line.specs.declared.settings.ScriptOptions.{ScriptOptions}
-use Rattle.command_line.specs.CommandLine.{Says, SaysNone}
-use Rattle.command_line.specs.Faults.{Answers, IsNoRequest}
-use Rattle.command_line.specs.declared.faults.LineFault.{LineFault}
+use Rattle.scopectl.specs.Words.{[], ℕ, ◌&&◌, ◌++◌, ◌-◌, ◌∷◌, ◌≡◌, ◌⊎◌, AllowedText, Answers, Appends, AppendsPart, AsksFor, Between, Bool, CommandLine, Consumes, Count, Delay, DumpFormat, Err}
+use Rattle.scopectl.specs.Words.{IsAtEnd, IsNoRequest, IsPageOf, IsScript, LEVEL_LIMIT, Limits, LineFault, List, Name, None, Notes, Ok, Option, PartText, PictureOptions, PlanValue, Result, SayPlan}
+use Rattle.scopectl.specs.Words.{Says, SaysNone, ScriptOptions, Some, TreeOptions, TreePart, View, ViewOptions, count_of_script, false, lines_of, list_any, no_refusals, notes_text, realm_of_script}
+use Rattle.scopectl.specs.Words.{replies_of, same_name, shown_text, stamps_of_script, true, unwrap_or, whole}
 use Rattle.command_line.specs.declared.faults.LineFault.TheVariants.{Memory}
-use Rattle.command_line.specs.Texts.{AsksFor}
+use Rattle.run_picture.specs.declared.view.View.{View as Seen}
+use Rattle.scopectl.specs.{Runs.Run, Saying.Noted, Saying.SaidNotes, Saying.status_of}
 
 -- the words say no command, and ask for neither help nor the version
 abbrev pub IsNotUnderstood : List (List ℕ) → Type 0
@@ -68,7 +29,7 @@ lines_or lines = unwrap_or lines 100
 pub record Generates (words : List (List ℕ)) (text : List ℕ) : Type 0 where
   pub seed : Option ℕ
   pub lines : Option ℕ
-  pub said : Says words (line.Generate seed lines)
+  pub said : Says words (CommandLine.Generate seed lines)
   pub is : IsScript (lines_or lines) text
 
 -- the words ask for this text: help, the version, or a random script
@@ -122,9 +83,9 @@ pub record AnswersPlan (deadline : Option ℕ) (after : List Delay) (bytes text 
 
 -- the part of the tree that the words ask for: all levels, if they don't say how many
 abbrev pub tree_part : TreeOptions → TreePart
-tree_part tree.Whole = part.Whole
-tree_part tree.Awaited = part.Awaited
-tree_part (tree.Part depth scope) = part.Levels (unwrap_or depth LEVEL_LIMIT) scope
+tree_part TreeOptions.Whole = TreePart.Whole
+tree_part TreeOptions.Awaited = TreePart.Awaited
+tree_part (TreeOptions.Part depth scope) = TreePart.Levels (unwrap_or depth LEVEL_LIMIT) scope
 
 -- the place of the event with this number, or else the other place: places are counted from 0
 abbrev pub place_or : Option ℕ → ℕ → ℕ
@@ -147,11 +108,11 @@ between_of p = record { since = p.since; until = p.until }
 
 -- the view that the words ask for
 abbrev pub view_of : ViewOptions → View
-view_of (asked.Dump asked_format.First) = view.Dump
-view_of (asked.Dump asked_format.Second) = view.TimedDump
-view_of (asked.Tree tree) = view.Tree (tree_part tree)
-view_of (asked.Timeline picture) = view.Timeline (seen_of picture) (between_of picture)
-view_of asked.TraceEvents = view.TraceEvents
+view_of (ViewOptions.Dump DumpFormat.First) = View.Dump
+view_of (ViewOptions.Dump DumpFormat.Second) = View.TimedDump
+view_of (ViewOptions.Tree tree) = View.Tree (tree_part tree)
+view_of (ViewOptions.Timeline picture) = View.Timeline (seen_of picture) (between_of picture)
+view_of ViewOptions.TraceEvents = View.TraceEvents
 
 -- the text is the view of the realm of these limits that the script leaves
 abbrev pub Shows : View → Limits → (bytes text : List ℕ) → Type 0
@@ -164,11 +125,11 @@ Pages limits bytes text = IsPageOf text (realm_of_script limits bytes).history (
 -- what a command makes of the bytes that are read: the replies to a script, in a realm of its limits; a view or a page of
 -- the realm that the script leaves; or an answer to a plan by the deadline
 abbrev pub Makes : CommandLine → (bytes text : List ℕ) → Type 0
-Makes (line.Replay script explain trace) bytes text = text ≡ replies_of script.limits bytes
-Makes (line.Show script view lenient explain) bytes text = Shows (view_of view) script.limits bytes text
-Makes (line.Page script lenient) bytes text = Pages script.limits bytes text
-Makes (line.Quote deadline after tree_after) bytes text = AnswersPlan deadline after.items bytes text
-Makes (line.Generate seed lines) bytes text = IsScript (lines_or lines) text
+Makes (CommandLine.Replay script explain trace) bytes text = text ≡ replies_of script.limits bytes
+Makes (CommandLine.Show script view lenient explain) bytes text = Shows (view_of view) script.limits bytes text
+Makes (CommandLine.Page script lenient) bytes text = Pages script.limits bytes text
+Makes (CommandLine.Quote deadline after tree_after) bytes text = AnswersPlan deadline after.items bytes text
+Makes (CommandLine.Generate seed lines) bytes text = IsScript (lines_or lines) text
 
 -- the command was done: all bytes were read, and exactly a text that it makes of them was written
 pub record DidJob (command : CommandLine) (run : Run) : Type 0 where
@@ -184,40 +145,40 @@ abbrev pub no_count : Count
 no_count = record { tally = no_refusals; is_foreign = false }
 
 abbrev pub count_of : CommandLine → List ℕ → Count
-count_of (line.Replay script explain trace) bytes = count_of_script script.limits bytes
-count_of (line.Show script view lenient explain) bytes = count_of_script script.limits bytes
-count_of (line.Page script lenient) bytes = count_of_script script.limits bytes
-count_of (line.Quote deadline after tree_after) bytes = no_count
-count_of (line.Generate seed lines) bytes = no_count
+count_of (CommandLine.Replay script explain trace) bytes = count_of_script script.limits bytes
+count_of (CommandLine.Show script view lenient explain) bytes = count_of_script script.limits bytes
+count_of (CommandLine.Page script lenient) bytes = count_of_script script.limits bytes
+count_of (CommandLine.Quote deadline after tree_after) bytes = no_count
+count_of (CommandLine.Generate seed lines) bytes = no_count
 
 -- the status is to tell that lines were refused
 abbrev pub is_strict : CommandLine → Bool
-is_strict (line.Replay script explain trace) = script.strict
-is_strict (line.Show script view lenient explain) = script.strict
-is_strict (line.Page script lenient) = script.strict
-is_strict (line.Quote deadline after tree_after) = false
-is_strict (line.Generate seed lines) = false
+is_strict (CommandLine.Replay script explain trace) = script.strict
+is_strict (CommandLine.Show script view lenient explain) = script.strict
+is_strict (CommandLine.Page script lenient) = script.strict
+is_strict (CommandLine.Quote deadline after tree_after) = false
+is_strict (CommandLine.Generate seed lines) = false
 
 -- the status is 0 though lines are no commands
 abbrev pub is_lenient : CommandLine → Bool
-is_lenient (line.Show script view lenient explain) = lenient
-is_lenient (line.Page script lenient) = lenient
+is_lenient (CommandLine.Show script view lenient explain) = lenient
+is_lenient (CommandLine.Page script lenient) = lenient
 is_lenient _ = true
 
 -- nothing is to be said of how many lines were refused
 abbrev pub is_quiet : CommandLine → Bool
-is_quiet (line.Replay script explain trace) = script.quiet
-is_quiet (line.Show script view lenient explain) = script.quiet
-is_quiet (line.Page script lenient) = script.quiet
-is_quiet (line.Quote deadline after tree_after) = true
-is_quiet (line.Generate seed lines) = true
+is_quiet (CommandLine.Replay script explain trace) = script.quiet
+is_quiet (CommandLine.Show script view lenient explain) = script.quiet
+is_quiet (CommandLine.Page script lenient) = script.quiet
+is_quiet (CommandLine.Quote deadline after tree_after) = true
+is_quiet (CommandLine.Generate seed lines) = true
 
 -- the notes that are wanted: on the lines that were refused, on each line's reply, or on both
 abbrev pub notes_wanted : (explain trace : Bool) → Option Notes
 notes_wanted false false = None
-notes_wanted true false = Some notes.Refusals
-notes_wanted false true = Some notes.Replies
-notes_wanted true true = Some notes.All
+notes_wanted true false = Some Notes.Refusals
+notes_wanted false true = Some Notes.Replies
+notes_wanted true true = Some Notes.All
 
 -- what was said of the lines of a script: the notes that are wanted, and how many were refused
 abbrev pub ToldNotes : Option Notes → ScriptOptions → (bytes : List ℕ) → Run → Type 0
@@ -232,15 +193,15 @@ noted_text (Some wanted) limits bytes = notes_text wanted limits bytes
 noted_text None limits bytes = []
 
 abbrev pub notes_on : CommandLine → List ℕ → List ℕ
-notes_on (line.Replay script explain trace) bytes = noted_text (notes_wanted explain trace) script.limits bytes
-notes_on (line.Show script view lenient explain) bytes = noted_text (notes_wanted explain false) script.limits bytes
+notes_on (CommandLine.Replay script explain trace) bytes = noted_text (notes_wanted explain trace) script.limits bytes
+notes_on (CommandLine.Show script view lenient explain) bytes = noted_text (notes_wanted explain false) script.limits bytes
 notes_on _ bytes = []
 
 -- what was said of the bytes that were read: the notes that are wanted on the lines of a script, and how many lines
 -- were refused
 abbrev pub Told : CommandLine → (bytes : List ℕ) → Run → Type 0
-Told (line.Replay script explain trace) bytes run = ToldNotes (notes_wanted explain trace) script bytes run
-Told (line.Show script view lenient explain) bytes run = ToldNotes (notes_wanted explain false) script bytes run
+Told (CommandLine.Replay script explain trace) bytes run = ToldNotes (notes_wanted explain trace) script bytes run
+Told (CommandLine.Show script view lenient explain) bytes run = ToldNotes (notes_wanted explain false) script bytes run
 Told command bytes run = Noted (is_quiet command) (count_of command bytes) run.ErrorsKept run.said.before run.said.after run.errors_failed
 
 -- the command was done, it was said how many lines were refused, with the notes that are wanted, and the status is as
@@ -252,7 +213,7 @@ pub record DidWhole (command : CommandLine) (run : Run) (result : ℕ) : Type 0 
 
 -- so was a replay with these notes, or without
 abbrev pub DidReplay : (notes : Option Notes) → ScriptOptions → Run → (result : ℕ) → Type 0
-DidReplay notes script run result = (explain trace : Bool) → notes_wanted explain trace ≡ notes → DidWhole (line.Replay script explain trace) run result
+DidReplay notes script run result = (explain trace : Bool) → notes_wanted explain trace ≡ notes → DidWhole (CommandLine.Replay script explain trace) run result
 
 -- all bytes were read, and the writer failed and took a beginning of a text that the command makes of them
 pub record FailedAtEnd (command : CommandLine) (bytes : List ℕ) (run : Run) : Type 0 where
@@ -269,7 +230,7 @@ WroteLate command bytes run = Appends run.written.before run.written.after [] �
 -- what was written of a command that a fault ended: a beginning of the replies to what was read, and else nothing
 -- before all was read
 abbrev pub WrotePart : CommandLine → (bytes : List ℕ) → Run → Type 0
-WrotePart (line.Replay script explain trace) bytes run = AppendsPart run.written.before run.written.after (replies_of script.limits bytes)
+WrotePart (CommandLine.Replay script explain trace) bytes run = AppendsPart run.written.before run.written.after (replies_of script.limits bytes)
 WrotePart command bytes run = WroteLate command bytes run
 
 -- a fault ended the command

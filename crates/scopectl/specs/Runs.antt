@@ -1,8 +1,5 @@
 -- What a run of the program did with its streams.
-use Rattle.std.specs.Prelude.{◌≡◌, ◌⊎◌, ℕ, Bool, false, true, Option, List}
-use Rattle.scope_script.specs.declared.streams.watched.Watched.{Watched}
-use Rattle.script_jobs.specs.Turns.{Turn, turn}
-use Rattle.scopectl.specs.declared.streams.Streams.{Streams}
+use Rattle.scopectl.specs.Words.{ℕ, ◌≡◌, ◌⊎◌, Bool, List, Option, Streams, Turn, Watched, false, true, turn}
 
 -- the bytes that were taken from the reader, written, and said on standard error; which stream was left as it was;
 -- whether the reader or the writer ended the run, and whether standard error has failed

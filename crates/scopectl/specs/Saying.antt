@@ -1,10 +1,5 @@
 -- What is said on standard error.
-use Rattle.std.specs.Prelude.{◌≡◌, ◌⊎◌, ◌++◌, ◌||◌, ◌==◌, ℕ, Bool, true, false, Option, List, [], ◌∷◌, codes, if◌then◌else◌}
-use Rattle.std.specs.Fmt.{decimal}
-use Rattle.std.specs.Io.KnownBytes.{Appends}
-use Rattle.scope_script.specs.Streams.{AppendsPart}
-use Rattle.scope_script.specs.declared.session.tally.Tally.{Tally}
-use Rattle.script_jobs.specs.declared.counting.Count.{Count}
+use Rattle.scopectl.specs.Words.{[], ℕ, ◌++◌, ◌==◌, ◌||◌, ◌∷◌, ◌≡◌, ◌⊎◌, Appends, AppendsPart, Bool, Count, List, Option, Tally, codes, decimal, false, if◌then◌else◌, true}
 
 -- the stream took the whole text, or failed and took a beginning of it
 abbrev pub IsSaid : (text : List ℕ) (said said_new : Option (List ℕ)) (failed : Bool) → Type 0

@@ -1,37 +1,27 @@
 -- The lines that name a fault.
-use Rattle.std.specs.Prelude.{◌++◌, ℕ, List, [], ◌∷◌, Option, None, Some, codes}
-use Rattle.std.specs.Fmt.{decimal}
-use Rattle.scope_script.specs.declared.session.run.ScriptFault.{ScriptFault}
-use Rattle.scope_script.specs.declared.session.run.ScriptFault.TheVariants as script
-use Rattle.script_jobs.specs.declared.noting.NotedFault.{NotedFault}
-use Rattle.script_jobs.specs.declared.noting.NotedFault.TheVariants as noted
-use Rattle.quote_plan.specs.declared.reading.PlanFault.{PlanFault}
-use Rattle.quote_plan.specs.declared.reading.PlanFault.TheVariants as plan
-use Rattle.quote_plan.specs.PlanWhys.{words_of}
-use Rattle.quote_gateway.specs.declared.faults.GatewayFault.{GatewayFault}
-use Rattle.quote_gateway.specs.declared.faults.GatewayFault.TheVariants as service
-use Rattle.scopectl.specs.declared.fault.ProgramFault.{ProgramFault}
-use Rattle.scopectl.specs.declared.fault.ProgramFault.TheVariants.{Read, Write, Notes, Memory, PlanLine, Strange, Rejected, Cancelled, Lost, NoOffer, Time}
+use Rattle.scopectl.specs.Words.{[], ℕ, ◌++◌, ◌∷◌, Cancelled, GatewayFault, List, Lost, Memory, NoOffer, None, NotedFault, Option, PlanFault, PlanLine, ProgramFault, Read, Rejected, ScriptFault, Some}
+use Rattle.scopectl.specs.Words.{Strange, Time, Write, codes, decimal, words_of}
+use Rattle.scopectl.specs.declared.fault.ProgramFault.TheVariants.{Notes}
 
 abbrev pub fault_of_run : ScriptFault → ProgramFault
-fault_of_run script.Read = Read
-fault_of_run script.Write = Write
-fault_of_run script.Memory = Memory
+fault_of_run ScriptFault.Read = Read
+fault_of_run ScriptFault.Write = Write
+fault_of_run ScriptFault.Memory = Memory
 
 abbrev pub fault_of_noted : NotedFault → ProgramFault
-fault_of_noted (noted.Run fault) = fault_of_run fault
-fault_of_noted noted.Notes = Notes
+fault_of_noted (NotedFault.Run fault) = fault_of_run fault
+fault_of_noted NotedFault.Notes = Notes
 
 abbrev pub fault_of_plan : PlanFault → ProgramFault
-fault_of_plan (plan.Word line why) = PlanLine line why
-fault_of_plan plan.Memory = Memory
+fault_of_plan (PlanFault.Word line why) = PlanLine line why
+fault_of_plan PlanFault.Memory = Memory
 
 abbrev pub fault_of_service : GatewayFault → ProgramFault
-fault_of_service service.Strange = Strange
-fault_of_service service.Memory = Memory
-fault_of_service service.Rejected = Rejected
-fault_of_service service.Cancelled = Cancelled
-fault_of_service service.Lost = Lost
+fault_of_service GatewayFault.Strange = Strange
+fault_of_service GatewayFault.Memory = Memory
+fault_of_service GatewayFault.Rejected = Rejected
+fault_of_service GatewayFault.Cancelled = Cancelled
+fault_of_service GatewayFault.Lost = Lost
 
 abbrev pub word_of : ProgramFault → List ℕ
 word_of Read = codes "read"

@@ -1,14 +1,7 @@
 //! All that the program does.
-ghost use Rattle.std.specs.Prelude.{◌≡◌, ◌≢◌, ◌≤◌, ◌⊎◌, Bool, List, ℕ, None, Some, false, true, map, string_bytes};
-ghost use Rattle.std.specs.Io.KnownBytes.{Appends};
-ghost use Rattle.scope_script.specs.Streams.{AppendsPart};
-ghost use Rattle.scopectl.specs.Acting.{DidAll, DidNothing, DidSome};
-ghost use Rattle.scopectl.specs.Naming.{Names, NamesAfter, NamesAfterNotes, NamesAlone, NamesAny, NamesOf, NamesOfPlan};
-ghost use Rattle.scopectl.specs.Program.{DidJob, DidPart, DidReplay, DidWhole, IsRead, WroteScriptPartly, between_of, lines_or, notes_wanted, place_or, seen_of, tree_part, view_of};
-ghost use Rattle.scopectl.specs.Runs.{IsSound, run};
-ghost use Rattle.script_jobs.specs.Made.{IsScript};
-ghost use Rattle.scopectl.specs.Saying.{IsSaid, Noted, SaidSome, count_text, is_silent, status_of, three_if_some};
-ghost use Rattle.scopectl.specs.Texts.{line_of, not_utf8_line};
+ghost use Rattle.scopectl.specs.{ℕ, ◌≡◌, ◌≢◌, ◌≤◌, ◌⊎◌, Appends, AppendsPart, Bool, DidAll, DidJob, DidNothing, DidPart, DidReplay, DidSome, DidWhole, IsRead, IsSaid, IsScript, IsSound, List, Names};
+ghost use Rattle.scopectl.specs.{NamesAfter, NamesAfterNotes, NamesAlone, NamesAny, NamesOf, NamesOfPlan, None, Noted, SaidSome, Some, WroteScriptPartly, between_of, count_text, false, is_silent};
+ghost use Rattle.scopectl.specs.{line_of, lines_or, map, not_utf8_line, notes_wanted, place_or, run, seen_of, status_of, string_bytes, three_if_some, tree_part, true, view_of};
 
 use crate::fault::{ProgramFault, count_text};
 use crate::looks::Looker;

@@ -1,7 +1,5 @@
 //! What the program says on standard error: why it ends with status 1, and how many lines were refused.
-ghost use Rattle.std.specs.Prelude.{◌≡◌, ◌≤◌, IfSome, length, option_map};
-ghost use Rattle.scopectl.specs.Saying.{count_text, foreign_text};
-ghost use Rattle.scopectl.specs.Texts.{cause_of, fault_of_noted, fault_of_plan, fault_of_run, fault_of_service, line_of, word_of};
+ghost use Rattle.scopectl.specs.{◌≡◌, ◌≤◌, IfSome, cause_of, count_text, fault_of_noted, fault_of_plan, fault_of_run, fault_of_service, foreign_text, length, line_of, option_map, word_of};
 
 use arrayvec::ArrayString;
 use itoa::Buffer;

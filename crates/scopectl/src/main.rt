@@ -14,8 +14,7 @@ mod quoting;
 mod streams;
 mod threads;
 
-ghost use Rattle.std.specs.Prelude.{map};
-ghost use Rattle.scopectl.specs.Program.{IsRead};
+ghost use Rattle.scopectl.specs.{IsRead, map};
 
 use colours::Coloured;
 use command_line::{ColorChoice, CommandLine, ViewOptions};

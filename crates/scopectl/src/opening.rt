@@ -1,6 +1,5 @@
 //! From where a line's job reads, and what is said before it does.
-ghost use Rattle.std.specs.Prelude.{map};
-ghost use Rattle.scopectl.specs.Program.{IsRead};
+ghost use Rattle.scopectl.specs.{IsRead, map};
 
 use crate::act::{DONE, FAULT, LINES_REFUSED, NOT_UNDERSTOOD, fail, note, refuse_words};
 use crate::checking::first_finding;

@@ -1,14 +1,7 @@
 //! The answer to the plan that is read. Nothing is written here.
-ghost use Rattle.std.specs.Prelude.{◌≡◌, ◌⊎◌, ◌++◌, [], ◌∷◌, Bool, false, true, nat_lt, not, None, Some, Ok, Err, drop, length, ◌+◌, ◌<◌, ◌^◌, IfOk, IfErr, OnErr, OnOk, string_bytes};
-ghost use Rattle.quote_plan.specs.AnswerText.{answer_text};
-ghost use Rattle.quote_plan.specs.Allowed.{AllowedText};
-ghost use Rattle.quote_plan.specs.Plans.{labels_of};
-ghost use Rattle.quote_gateway.specs.Offers.{labels_in};
-ghost use Rattle.std.specs.List.{list_any};
-ghost use Rattle.scope_rules.specs.Names.{same_name};
-ghost use Rattle.scopectl.specs.Program.{AllowedIn, AnswersPlan, Made, ReadPlan, SaysAllowed, has_late};
-ghost use Rattle.script_jobs.specs.Jobs.{ReadSome};
-ghost use Rattle.scopectl.specs.Naming.{CameReading, IsBadLine, IsOfPlan, MayEndPlan, is_timed};
+ghost use Rattle.scopectl.specs.{[], ◌++◌, ◌+◌, ◌<◌, ◌^◌, ◌∷◌, ◌≡◌, ◌⊎◌, AllowedIn, AllowedText, AnswersPlan, Bool, CameReading, Err, IfErr, IfOk, IsBadLine, IsOfPlan, Made, MayEndPlan, None, Ok};
+ghost use Rattle.scopectl.specs.{OnErr, OnOk, ReadPlan, ReadSome, SaysAllowed, Some, answer_text, drop, false, has_late, is_timed, labels_in, labels_of, length, list_any, nat_lt, not, same_name};
+ghost use Rattle.scopectl.specs.{string_bytes, true};
 
 use crate::fault::ProgramFault;
 use crate::looks::Looker;

@@ -1,5 +1,5 @@
 //! The streams of a run of the program.
-ghost use Rattle.std.specs.Prelude.{◌≡◌, false};
+ghost use Rattle.scopectl.specs.{◌≡◌, false};
 
 use scope_script::Watched;
 use std::alloc::Global;

@@ -1,9 +1,5 @@
 //! The threads of a plan's jobs, which there are only if the words say a quote.
-ghost use Rattle.std.specs.Prelude.{◌≡◌, map, IfOk};
-ghost use Rattle.std.specs.String.{string_bytes};
-ghost use Rattle.scopectl.specs.Acting.{Acts};
-ghost use Rattle.scopectl.specs.Program.{IsRead};
-ghost use Rattle.scopectl.specs.Runs.{IsSound, run};
+ghost use Rattle.scopectl.specs.{◌≡◌, Acts, IfOk, IsRead, IsSound, map, run, string_bytes};
 
 use crate::act::{act, refuse_words};
 use crate::looks::Looker;

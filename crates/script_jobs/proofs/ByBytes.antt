@@ -1,16 +1,9 @@
 -- Notes on a script that comes byte by byte are those on its lines.
-use Rattle.std.proofs.Common.{◌≡◌, ℕ, ◌==◌, Bool, true, false, Some, List, [], ◌∷◌, ◌++◌, refl, ap, sym, ◌∙◌, append_assoc, append-nil}
-use Rattle.std.specs.Prelude.{if◌then◌else◌}
-use Rattle.std.proofs.lemmas.Bool.{or_parts}
-use Rattle.scope_rules.specs.declared.types.capacity.Limits.{Limits}
-use Rattle.script_words.specs.Lines.{line_said}
-use Rattle.scope_script.specs.Streams.{AppendsPart}
-use Rattle.scope_script.specs.Cutting.{ended_lines, begun_line, has_feed, CutsLine}
-use Rattle.script_jobs.specs.Begun.{Begun, begun_by, grown, grown_by, no_line}
-use Rattle.script_jobs.specs.Noting.{Noting, noting_after, noting_begins}
-use Rattle.script_jobs.specs.Notes.{NoteSession, line_note, notes_from, notes_text, noted_byte, byte_note, noted_bytes, bytes_note, end_note, notes_begin}
-use Rattle.script_jobs.specs.declared.notes.Notes.{Notes}
-use Rattle.script_jobs.proofs.Growing.{said_first, grown_begun, none_begun}
+use Rattle.script_jobs.specs.{[], ℕ, ◌++◌, ◌==◌, ◌∷◌, ◌≡◌, AppendsPart, Begun.Begun, Bool, CutsLine, Limits, List, NoteSession, Noting.Noting, Some, Words.Notes, begun_by, begun_line, byte_note}
+use Rattle.script_jobs.specs.{bytes_note, end_note, ended_lines, false, grown, grown_by, has_feed, if◌then◌else◌, line_note, line_said, no_line, noted_byte, noted_bytes, notes_begin, notes_from}
+use Rattle.script_jobs.specs.{notes_text, noting_after, noting_begins, true}
+use Rattle.script_jobs.proofs.Words.{◌∙◌, ap, append-nil, append_assoc, or_parts, refl, sym}
+use Rattle.script_jobs.proofs.Growing.{grown_begun, none_begun, said_first}
 
 -- ---- by lines
 

@@ -1,8 +1,7 @@
 -- Two texts that are gone through line by line.
-use Rattle.std.proofs.Common.{◌≡◌, ◌∙◌, ◌+◌, ◌<◌, ℕ, refl, sym, ap, List, [], ◌∷◌, ◌++◌, length, arith, append_assoc, append-nil, length-append}
-use Rattle.std.specs.List.{flat_map}
-use Rattle.scope_script.specs.Cutting.{CutsLine}
-use Rattle.script_jobs.specs.Comparing.{BeginAlike, ended}
+use Rattle.script_jobs.specs.{[], ℕ, ◌++◌, ◌+◌, ◌<◌, ◌∷◌, ◌≡◌, BeginAlike, CutsLine, List, flat_map, length}
+use Rattle.script_jobs.proofs.Words.{◌∙◌, ap, append-nil, append_assoc, arith, length-append, refl, sym}
+use Rattle.script_jobs.specs.Comparing.{ended}
 
 flat_more : (xs : List (List ℕ)) (x : List ℕ) → flat_map ended (xs ++ x ∷ []) ≡ flat_map ended xs ++ ended x
 flat_more [] x = append-nil (ended x)

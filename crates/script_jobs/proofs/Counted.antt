@@ -1,7 +1,6 @@
 -- How many times come before a moment, counted one after the other.
-use Rattle.std.proofs.Common.{◌≡◌, ℕ, ◌+◌, ◌≤◌, ◌<◌, true, false, nat_le, List, [], ◌∷◌, length, refl, ap, ◌∙◌, arith}
-use Rattle.std.proofs.lemmas.Bool.Decides.{nat_tests}
-use Rattle.script_jobs.specs.Between.{count_before}
+use Rattle.script_jobs.specs.{[], ℕ, ◌+◌, ◌<◌, ◌∷◌, ◌≡◌, ◌≤◌, List, count_before, false, length, nat_le, true}
+use Rattle.script_jobs.proofs.Words.{◌∙◌, ap, arith, nat_tests, refl}
 
 -- the test of two numbers, of which one is known by another name
 pub is_later : (moment t u : ℕ) → u ≡ t → moment ≤ u → nat_le moment t ≡ true

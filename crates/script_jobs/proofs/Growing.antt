@@ -1,15 +1,8 @@
 -- What is kept of a line as it grows, and what it decides.
-use Rattle.std.proofs.Common.{◌≡◌, ◌==◌, ℕ, zero, suc, ◌+◌, ◌-◌, ◌≤◌, ◌<◌, Bool, true, false, List, [], ◌∷◌, ◌++◌, length, take, None, refl, ap, sym, ◌∙◌, arith, append_assoc, append-nil, length-append, nat_lt}
-use Rattle.std.proofs.lemmas.Bool.{eqb-true, ltb-true, ltb-false, lt-ltb}
-use Rattle.std.proofs.lemmas.List.{length-take, take_all}
-use Rattle.script_words.specs.declared.commands.Line.TheVariants.{BadWord}
-use Rattle.script_words.specs.declared.lines.TheConstants.{LINE_LIMIT}
-use Rattle.script_words.specs.Lines.{line_said}
-use Rattle.scope_script.specs.KeptLines.{is_blank, kept, said}
+use Rattle.script_jobs.specs.{[], ℕ, ◌++◌, ◌+◌, ◌-◌, ◌<◌, ◌==◌, ◌∷◌, ◌≡◌, ◌≤◌, BadWord, Begun.Begun, Bool, KEPT_LIMIT, LINE_LIMIT, List, None, begun_by, capped, false, grown, grown_by, is_blank, kept}
+use Rattle.script_jobs.specs.{length, line_said, nat_lt, no_line, said, take, true}
+use Rattle.script_jobs.proofs.Words.{◌∙◌, ap, append-nil, append_assoc, arith, eqb-true, grown_kept, length-append, length-take, lt-ltb, ltb-false, ltb-true, refl, said_kept, suc, sym, take_all, zero}
 use Rattle.scope_script.specs.KeptLines.{grown_by as plain_grown_by}
-use Rattle.scope_script.proofs.Growing.{said_kept, grown_kept}
-use Rattle.script_jobs.specs.Begun.{Begun, begun_by, capped, grown, grown_by, no_line}
-use Rattle.script_jobs.specs.declared.begun.TheConstants.{KEPT_LIMIT}
 
 -- ---- the first bytes
 

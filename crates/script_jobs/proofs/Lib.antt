@@ -13,3 +13,4 @@ mod Walked
 mod Timed
 mod Standing
 mod Made
+mod Words

@@ -1,20 +1,8 @@
 -- The line that is known of an event is the one whose command recorded it.
-use Rattle.std.proofs.Common.{◌≡◌, ◌⊎◌, inl, inr, ◌==◌, ◌+◌, ◌<◌, ℕ, zero, suc, Bool, true, false, Some, List, [], ◌∷◌, ◌++◌, length, slice_get, refl, ap, sym, ◌∙◌, subst, arith, append_assoc, append-nil, length-append, eq-eqb, nat_lt}
-use Rattle.std.specs.Prelude.{if◌then◌else◌, is_ok}
-use Rattle.std.proofs.lemmas.Bool.{eqb-true, le-ltb, lt-ltb, ne_eqb}
-use Rattle.scope_rules.specs.declared.types.capacity.Limits.{Limits}
-use Rattle.scope_rules.specs.declared.types.events.Event.{Event}
-use Rattle.scope_rules.specs.Replies.{Realm, base_of, starting, with_event}
-use Rattle.scope_rules.specs.Table.{retire_check}
-use Rattle.script_words.specs.declared.commands.Command.{Command}
-use Rattle.script_words.specs.declared.commands.Command.TheVariants.{Do, Retire, Ask}
-use Rattle.script_words.specs.declared.commands.Line.{Line}
-use Rattle.script_words.specs.declared.commands.Line.TheVariants as line_is
-use Rattle.script_words.specs.Lines.{line_said}
-use Rattle.scope_script.specs.Replying.{is_accepted, realm_after}
-use Rattle.scope_script.specs.Sessions.{realm_after_line}
-use Rattle.script_jobs.specs.Noting.{Noting, lines_after, noting_after, noting_begins}
-use Rattle.script_jobs.specs.LineLaws.{LinesRecord, RecordedAt, noting_after_lines, noting_of_lines}
+use Rattle.script_jobs.specs.{[], ℕ, ◌++◌, ◌+◌, ◌<◌, ◌==◌, ◌∷◌, ◌≡◌, ◌⊎◌, Ask, Bool, Command, Do, Event, Limits, Line, LinesRecord, List, Noting.Noting, Realm, RecordedAt, Retire, Some, base_of}
+use Rattle.script_jobs.specs.{false, if◌then◌else◌, is_accepted, is_ok, length, line_said, lines_after, nat_lt, noting_after, noting_after_lines, noting_begins, noting_of_lines, realm_after}
+use Rattle.script_jobs.specs.{realm_after_line, retire_check, slice_get, starting, true, with_event}
+use Rattle.script_jobs.proofs.Words.{◌∙◌, ap, append-nil, append_assoc, arith, eq-eqb, eqb-true, inl, inr, le-ltb, length-append, lt-ltb, ne_eqb, refl, subst, suc, sym, zero}
 
 -- ---- one more in a list
 
@@ -77,7 +65,7 @@ module _ (L : Limits) where
     same_next = rw (eq-eqb (length s.realm.history.events) (length s.realm.history.events) refl) (known.many, λ i e at. (let was = known.each i e at in (was.0, was.1, further before line was.0 i e was.2)))
 
     -- an event was
-    more_next : (e : Event) → line_said line ≡ line_is.Command (Do e) → Next (with_event s.realm e) (lines_after s.lines s.number s.realm.history (with_event s.realm e).history)
+    more_next : (e : Event) → line_said line ≡ Line.Command (Do e) → Next (with_event s.realm e) (lines_after s.lines s.number s.realm.history (with_event s.realm e).history)
     more_next e says =
         let events = s.realm.history.events in
         let longer : length (events ++ e ∷ []) ≡ length events + 1 = length-append events (e ∷ []) in
@@ -96,7 +84,7 @@ module _ (L : Limits) where
                 back = [];
                 whole = refl;
                 numbered = known.number;
-                says = says ∙ ap (λ (g : Event). line_is.Command (Do g)) last.1;
+                says = says ∙ ap (λ (g : Event). Line.Command (Do g)) last.1;
                 placed = ap (λ (u : Noting). length u.realm.history.events) (sym is) ∙ sym last.0;
               },
             )
@@ -115,11 +103,11 @@ module _ (L : Limits) where
     retired true realm is = none_next realm (ap (λ (r : Realm). r.history.events) is)
     retired false realm is = subst (λ (r : Realm). Next r (lines_after s.lines s.number s.realm.history r.history)) (sym is) same_next
 
-    done : (e : Event) → line_said line ≡ line_is.Command (Do e) → (b : Bool) (realm : Realm) → realm ≡ (if b then with_event s.realm e else s.realm) → Next realm (lines_after s.lines s.number s.realm.history realm.history)
+    done : (e : Event) → line_said line ≡ Line.Command (Do e) → (b : Bool) (realm : Realm) → realm ≡ (if b then with_event s.realm e else s.realm) → Next realm (lines_after s.lines s.number s.realm.history realm.history)
     done e says true realm is = subst (λ (r : Realm). Next r (lines_after s.lines s.number s.realm.history r.history)) (sym is) (more_next e says)
     done e says false realm is = subst (λ (r : Realm). Next r (lines_after s.lines s.number s.realm.history r.history)) (sym is) same_next
 
-    by_command : (c : Command) → line_said line ≡ line_is.Command c → Next (realm_after s.realm c) (lines_after s.lines s.number s.realm.history (realm_after s.realm c).history)
+    by_command : (c : Command) → line_said line ≡ Line.Command c → Next (realm_after s.realm c) (lines_after s.lines s.number s.realm.history (realm_after s.realm c).history)
     unfolding realm_after
     by_command (Do e) says = done e says (is_accepted s.realm e) (if is_accepted s.realm e then with_event s.realm e else s.realm) refl
     by_command (Retire actor) says = retired (is_ok (retire_check s.realm.history actor)) (if is_ok (retire_check s.realm.history actor) then starting s.realm.limits (base_of s.realm.history) else s.realm) refl
@@ -127,9 +115,9 @@ module _ (L : Limits) where
 
     by_line : (l : Line) → line_said line ≡ l → Next (realm_after_line s.realm l) (lines_after s.lines s.number s.realm.history (realm_after_line s.realm l).history)
     unfolding realm_after_line
-    by_line line_is.Silent says = same_next
-    by_line line_is.BadWord says = same_next
-    by_line (line_is.Command c) says = by_command c says
+    by_line Line.Silent says = same_next
+    by_line Line.BadWord says = same_next
+    by_line (Line.Command c) says = by_command c says
 
     known_next : Known (before ++ line ∷ []) (noting_after s (line_said line))
     known_next = let next = by_line (line_said line) refl in record { number = next_number; many = next.0; each = next.1 }

@@ -1,14 +1,7 @@
 -- Lines that are put together.
-use Rattle.std.proofs.Common.{◌≡◌, ◌∙◌, ◌+◌, ◌&&◌, ℕ, true, false, Bool, refl, sym, ap, List, [], ◌∷◌, ◌++◌, arith, append_assoc, append-nil, length-append}
-use Rattle.std.specs.List.{flat_map, list_all}
-use Rattle.std.proofs.Common.{codes, lit<}
-use Rattle.std.specs.Fmt.{digits}
-use Rattle.scope_rules.specs.declared.types.events.Event.TheVariants.{Tick}
-use Rattle.script_words.specs.Lines.{line_said}
-use Rattle.script_words.specs.Spelling.{HasWords, LineSaysTheCommand, words_of}
-use Rattle.script_words.specs.declared.commands.Command.TheVariants.{Do}
-use Rattle.script_words.specs.declared.commands.Line.TheVariants as line
-use Rattle.script_jobs.specs.Made.{IsScript, OneMore, ended, is_answered_line}
+use Rattle.script_jobs.specs.{[], ℕ, ◌&&◌, ◌++◌, ◌+◌, ◌∷◌, ◌≡◌, Bool, Do, HasWords, IsScript, Line, LineSaysTheCommand, List, OneMore, Tick, codes, digits, ended, false, flat_map, is_answered_line}
+use Rattle.script_jobs.specs.{line_said, list_all, true, words_of}
+use Rattle.script_jobs.proofs.Words.{◌∙◌, ap, append-nil, append_assoc, arith, length-append, lit<, refl, sym}
 
 flat_more : (xs : List (List ℕ)) (x : List ℕ) → flat_map ended (xs ++ x ∷ []) ≡ flat_map ended xs ++ ended x
 flat_more [] x = append-nil (ended x)
@@ -37,5 +30,5 @@ one_made n text more made one = record {
 pub fallback : LineSaysTheCommand → is_answered_line (codes "tick 0") ≡ true
 unfolding words_of HasWords digits
 fallback law =
-    let said : line_said (codes "tick 0") ≡ line.Command (Do (Tick 0)) = law (Do (Tick 0)) (lit< tt) in
+    let said : line_said (codes "tick 0") ≡ Line.Command (Do (Tick 0)) = law (Do (Tick 0)) (lit< tt) in
     rw said refl

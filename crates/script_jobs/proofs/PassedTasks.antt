@@ -1,37 +1,10 @@
 -- How far the tasks of scopes have ended, after one more of them, an event and a command.
-use Rattle.std.proofs.Common.{◌≡◌, ℕ, zero, suc, ◌+◌, ◌<◌, ◌≤◌, ◌==◌, ◌⊎◌, Bool, true, false, cond, Option, Some, None, List, [], ◌∷◌, ◌++◌, length, slice_get, take, refl, ap, sym, subst, ◌∙◌, arith, append-nil, length-append, inl, inr}
+use Rattle.script_jobs.specs.{[], ℕ, ◌++◌, ◌+◌, ◌<◌, ◌==◌, ◌∷◌, ◌≡◌, ◌≤◌, ◌⊎◌, ArePassed, Ask, Bool, Checked, Command, Do, Equal-is, Err, Event, Fork, Forking, History, IfOk, Knows, Legal, Limits}
+use Rattle.script_jobs.specs.{List, None, Ok, OnErr, Option, Performs, Realm, Reply, Result, Retire, Some, after_retiring, base_of, count_by, false, filter, find, followed, forking, is_accepted}
+use Rattle.script_jobs.specs.{is_at, is_fork, is_join, is_pending, is_settled, is_task_of, length, lookup, nat_cmp, option_map_or, range_with_len, realm_after, realm_stopped, retire_check, slice_get}
+use Rattle.script_jobs.specs.{stage, take, task_numbers, tasks, tasks_of, true, with_event}
+use Rattle.script_jobs.proofs.Words.{◌∙◌, ap, append-nil, arith, cond, exact_unsigned, if_one, inl, inr, length-append, refl, same_Some, settled_stays, subst, suc, sym, tasks_forked, tasks_kept, zero}
 use Rattle.std.specs.BTreeMap as tree
-use Rattle.std.specs.BTreeMap.{is_at}
-use Rattle.std.specs.Cmp.{Equal-is}
-use Rattle.std.specs.List.{find, filter, count_by, range_with_len}
-use Rattle.std.specs.Ordering.{nat_cmp}
-use Rattle.std.specs.Map.{lookup}
-use Rattle.std.specs.Option.{option_map_or}
-use Rattle.std.specs.Result.{IfOk, OnErr}
-use Rattle.std.specs.declared.result.Result.{Result}
-use Rattle.std.specs.declared.result.Result.TheVariants.{Ok, Err}
-use Rattle.std.proofs.lemmas.Map.Lookups.{exact_unsigned}
-use Rattle.std.proofs.lemmas.Option.{same_Some}
-use Rattle.scope_rules.specs.declared.types.capacity.Limits.{Limits}
-use Rattle.scope_rules.specs.declared.types.events.Event.{Event}
-use Rattle.scope_rules.specs.declared.types.events.Event.TheVariants.{Fork}
-use Rattle.scope_rules.specs.declared.types.records.Forking.{Forking}
-use Rattle.scope_rules.specs.Completions.{is_task_of}
-use Rattle.scope_rules.specs.History.{History, followed, forking, is_fork, task_numbers, tasks}
-use Rattle.scope_rules.specs.Legal.{Legal}
-use Rattle.scope_rules.specs.Nests.{tasks_of}
-use Rattle.scope_rules.specs.Checks.{Checked}
-use Rattle.scope_rules.specs.Replies.{Realm, base_of, after_retiring, with_event}
-use Rattle.scope_rules.specs.Table.{retire_check}
-use Rattle.scope_rules.specs.Tasks.{stage, is_settled}
-use Rattle.scope_rules.proofs.Stages.{settled_stays}
-use Rattle.scope_index.proofs.TaskLists.{if_one, tasks_kept, tasks_forked}
-use Rattle.scope_script.specs.Replying.{Performs, is_accepted, is_join, realm_after, realm_stopped}
-use Rattle.script_words.specs.declared.reply.Reply.{Reply}
-use Rattle.script_words.specs.declared.commands.Command.{Command}
-use Rattle.script_words.specs.declared.commands.Command.TheVariants.{Do, Retire, Ask}
-use Rattle.refusal_reasons.specs.Places.{is_pending}
-use Rattle.script_jobs.specs.Passed.{ArePassed, Knows}
 
 -- ---- one scope
 

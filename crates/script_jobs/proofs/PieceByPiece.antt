@@ -1,15 +1,8 @@
 -- Notes that are written piece by piece are those on the whole script.
-use Rattle.std.proofs.Common.{◌≡◌, ℕ, ◌==◌, Bool, true, Option, List, [], ◌∷◌, ◌++◌, length, refl, ap, sym, ◌∙◌, subst, append_assoc, append-nil, arith}
-use Rattle.std.specs.Io.KnownBytes.{Appends}
-use Rattle.std.proofs.lemmas.Bool.{eqb-true}
-use Rattle.std.proofs.KnownBytes.{Appends-trans, Appends-nil}
-use Rattle.scope_rules.specs.declared.types.capacity.Limits.{Limits}
-use Rattle.scope_script.specs.Streams.{AppendsPart}
-use Rattle.scope_script.proofs.Progress.{part_of_part}
-use Rattle.script_jobs.specs.Notes.{NoteSession, bytes_note, end_note, noted_bytes, notes_begin, notes_text}
-use Rattle.script_jobs.specs.declared.notes.Notes.{Notes}
-use Rattle.script_jobs.proofs.ByBytes.{note_append, note_none, noted_append, noted_none, script_notes}
-use Rattle.script_jobs.proofs.Running.{part_after}
+use Rattle.script_jobs.specs.{[], ℕ, ◌++◌, ◌==◌, ◌∷◌, ◌≡◌, Appends, AppendsPart, Bool, Limits, List, NoteSession, Option, Words.Notes, bytes_note, end_note, length, noted_bytes, notes_begin}
+use Rattle.script_jobs.specs.{notes_text, true}
+use Rattle.script_jobs.proofs.Words.{◌∙◌, Appends-nil, Appends-trans, ap, append-nil, append_assoc, arith, eqb-true, part_of_part, refl, subst, sym}
+use Rattle.script_jobs.proofs.{ByBytes.note_append, ByBytes.note_none, ByBytes.noted_append, ByBytes.noted_none, ByBytes.script_notes, Running.part_after}
 
 -- the notes on the bytes before the rest were written
 pub record NotedUpTo (said said_now : Option (List ℕ)) (wanted : Notes) (L : Limits) (script rest : List ℕ) (now : NoteSession) : Type 0 where

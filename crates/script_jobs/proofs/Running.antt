@@ -1,24 +1,10 @@
 -- How a replay with notes comes on: what it has read, written and noted.
-use Rattle.std.proofs.Common.{◌≡◌, ℕ, Option, Ok, Err, Result, List, [], ◌++◌, ap, sym, ◌∙◌, subst, append_assoc, append-nil, take}
-use Rattle.std.specs.Prelude.{OnErr}
-use Rattle.std.specs.Io.KnownBytes.{Appends, Consumes, IsAtEnd, Keeps}
-use Rattle.std.proofs.KnownBytes.{Appends-trans, Appends-nil, Consumes-trans, Consumes-nil, Consumes-kept}
-use Rattle.scope_rules.specs.declared.types.capacity.Limits.{Limits}
-use Rattle.scope_script.specs.declared.session.run.Mode.TheVariants.{Replies}
-use Rattle.scope_script.specs.Streams.{AppendsPart}
-use Rattle.scope_script.specs.Sessions.{replies_of}
-use Rattle.scope_script.specs.ByBytes.{Session, the_beginning, after_bytes, bytes_reply, end_reply, end_tally}
-use Rattle.scope_script.proofs.Scripts.{after_append, told_more, after_none, reply_none}
-use Rattle.scope_script.proofs.Kept.{script_replies, script_leaves, script_tallies}
-use Rattle.scope_script.proofs.Progress.{part_of_part, part_of_all}
-use Rattle.script_jobs.specs.Counts.{count_in}
-use Rattle.script_jobs.specs.declared.counting.Count.{Count}
-use Rattle.script_jobs.specs.Jobs.{ReplayedNoted, ReplayedPartly}
-use Rattle.script_jobs.specs.Notes.{NoteSession, noted_bytes, bytes_note, end_note, notes_begin, notes_text}
-use Rattle.script_jobs.specs.Turns.{Turn}
-use Rattle.script_jobs.specs.declared.notes.Notes.{Notes}
-use Rattle.script_jobs.proofs.ByBytes.{script_notes, noted_append, note_append, noted_none, note_none}
-use Rattle.script_jobs.proofs.Runs.{count_is}
+use Rattle.script_jobs.specs.{[], ℕ, ◌++◌, ◌≡◌, Appends, AppendsPart, Consumes, Count, Err, IsAtEnd, Keeps, Limits, List, NoteSession, Ok, OnErr, Option, ReplayedNoted, ReplayedPartly, Replies}
+use Rattle.script_jobs.specs.{Result, Session, Turn, Words.Notes, after_bytes, bytes_note, bytes_reply, count_in, end_note, end_reply, end_tally, noted_bytes, notes_begin, notes_text, replies_of}
+use Rattle.script_jobs.specs.{take, the_beginning}
+use Rattle.script_jobs.proofs.Words.{◌∙◌, Appends-nil, Appends-trans, Consumes-kept, Consumes-nil, Consumes-trans, after_append, after_none, ap, append-nil, append_assoc, part_of_all, part_of_part}
+use Rattle.script_jobs.proofs.Words.{reply_none, script_leaves, script_replies, script_tallies, subst, sym, told_more}
+use Rattle.script_jobs.proofs.{ByBytes.note_append, ByBytes.note_none, ByBytes.noted_append, ByBytes.noted_none, ByBytes.script_notes, Runs.count_is}
 
 -- the replay is under way: it answered and noted all that it read so far
 pub record UnderWay (unread unread_now written written_now said said_now : Option (List ℕ)) (wanted : Notes) (L : Limits) (plain : Session) (noted : NoteSession) : Type 0 where

@@ -1,22 +1,7 @@
 -- What a run of a script has read and written is what a job has.
-use Rattle.std.proofs.Common.{◌≡◌, ◌∙◌, ℕ, ap, refl, subst, List, [], ◌∷◌, ◌++◌, Option}
-use Rattle.std.specs.Io.KnownBytes.{Appends, Consumes, IsAtEnd}
-use Rattle.scope_rules.specs.Replies.{Realm}
-use Rattle.scope_rules.specs.declared.types.capacity.Limits.{Limits}
-use Rattle.scope_script.specs.Sessions.{realm_of_script, replies_of}
-use Rattle.scope_script.specs.Sessions.{shown as shown_bytes}
-use Rattle.scope_script.specs.Streams.{AppendsPart}
-use Rattle.scope_script.specs.Tallies.{tally_of_script}
-use Rattle.scope_script.specs.Running.{RunsPartly, RunsTallied, RunsText}
-use Rattle.scope_script.specs.declared.session.tally.Tally.{Tally}
-use Rattle.script_jobs.specs.Counts.{count_in, count_of_script}
-use Rattle.script_jobs.specs.declared.counting.Count.{Count}
-use Rattle.scope_script.specs.declared.session.run.Mode.TheVariants.{Quiet, Replies}
-use Rattle.script_jobs.specs.Times.{stamps_of_script}
-use Rattle.script_jobs.specs.Jobs.{ReadSome, Replayed, Showed, shown_text}
-use Rattle.script_jobs.specs.declared.showing.View.{View}
-use Rattle.script_jobs.specs.declared.showing.View.TheVariants.{Dump}
-use Rattle.tree_dump.specs.Tree.{dump_text}
+use Rattle.script_jobs.specs.{[], ℕ, ◌++◌, ◌∷◌, ◌≡◌, Appends, AppendsPart, Consumes, Count, Dump, IsAtEnd, Limits, List, Option, Quiet, ReadSome, Realm, Replayed, Replies, RunsPartly, RunsTallied}
+use Rattle.script_jobs.specs.{RunsText, Showed, Tally, View, count_in, count_of_script, dump_text, realm_of_script, replies_of, shown as shown_bytes, shown_text, stamps_of_script, tally_of_script}
+use Rattle.script_jobs.proofs.Words.{◌∙◌, ap, refl, subst}
 
 no_part : (part rest : List ℕ) → [] ≡ part ++ rest → part ≡ []
 no_part [] rest e = refl

@@ -1,9 +1,6 @@
 -- A script that goes on by a line is that of its lines.
-use Rattle.std.proofs.Common.{◌≡◌, ◌∙◌, ℕ, List, ◌++◌, Result, Ok, Err, ap, sym}
-use Rattle.std.specs.Prelude.{OnOk, is_ok, if◌then◌else◌}
-use Rattle.scope_rules.specs.declared.types.capacity.Limits.{Limits}
-use Rattle.scope_script.specs.ByBytes.{Session, after_bytes, the_beginning}
-use Rattle.scope_script.proofs.Scripts.{after_append}
+use Rattle.script_jobs.specs.{ℕ, ◌++◌, ◌≡◌, Err, Limits, List, Ok, OnOk, Result, Session, after_bytes, if◌then◌else◌, is_ok, the_beginning}
+use Rattle.script_jobs.proofs.Words.{◌∙◌, after_append, ap, sym}
 
 pub stands_more : {T E : Type 0} (r : Result T E) (L : Limits) (s t : Session) (lines whole other new : List ℕ) → s ≡ after_bytes (the_beginning L) lines → t ≡ after_bytes s whole → other ≡ whole
     → new ≡ (if is_ok r then lines ++ other else lines) → OnOk r (t ≡ after_bytes (the_beginning L) new)

@@ -1,10 +1,7 @@
 -- The times of a script, line by line.
-use Rattle.std.proofs.Common.{◌≡◌, ℕ, ◌||◌, Bool, true, false, is_some, List, [], ◌∷◌, ◌++◌, length, ap, sym, ◌∙◌}
-use Rattle.scope_rules.specs.Replies.{Realm}
-use Rattle.script_words.specs.Lines.{line_said}
-use Rattle.scope_script.specs.Cutting.{ended_lines, has_feed, CutsLine}
-use Rattle.scope_script.specs.Sessions.{realm_after_line}
-use Rattle.script_jobs.specs.Times.{Stamps, at_line, has_reading, reading_of, stamped, stamps_from}
+use Rattle.script_jobs.specs.{[], ℕ, ◌++◌, ◌∷◌, ◌≡◌, Bool, CutsLine, List, Realm, Stamps, at_line, ended_lines, false, has_feed, has_reading, is_some, length, line_said, reading_of, realm_after_line}
+use Rattle.script_jobs.specs.{stamped, stamps_from, true}
+use Rattle.script_jobs.proofs.Words.{◌||◌, ◌∙◌, ap, sym}
 use Rattle.script_jobs.proofs.Walked.{line_ends, no_lines}
 
 -- the lines of what is left begin with its first one

@@ -1,7 +1,6 @@
 -- The lines of a script, one by one.
-use Rattle.std.proofs.Common.{◌≡◌, ℕ, ◌==◌, false, cond, List, [], ◌∷◌, ◌++◌, refl, ap, sym, ◌∙◌, append_assoc, append-nil}
-use Rattle.std.proofs.lemmas.Bool.{or_parts}
-use Rattle.scope_script.specs.Cutting.{ended_lines, has_feed}
+use Rattle.script_jobs.specs.{[], ℕ, ◌++◌, ◌==◌, ◌∷◌, ◌≡◌, List, ended_lines, false, has_feed}
+use Rattle.script_jobs.proofs.Words.{◌∙◌, ap, append-nil, append_assoc, cond, or_parts, refl, sym}
 
 -- bytes without a line feed end no line
 pub no_lines : (begun bytes : List ℕ) → has_feed bytes ≡ false → ended_lines begun bytes ≡ []

@@ -1,10 +1,5 @@
 -- What is kept of a line that comes piece by piece, so that a note on it can be made.
-use Rattle.std.specs.Prelude.{ℕ, ◌+◌, min, nat_lt, List, [], ◌∷◌, ◌++◌, length, take, Option, Some, if◌then◌else◌}
-use Rattle.refusal_reasons.specs.Faults.{fault_of}
-use Rattle.refusal_reasons.specs.declared.faults.WordFault.{WordFault}
-use Rattle.refusal_reasons.specs.declared.faults.WordFault.TheVariants.{TooLong}
-use Rattle.script_words.specs.declared.lines.TheConstants.{LINE_LIMIT}
-use Rattle.script_jobs.specs.declared.begun.TheConstants.{KEPT_LIMIT}
+use Rattle.script_jobs.specs.Words.{[], ℕ, ◌++◌, ◌+◌, ◌∷◌, KEPT_LIMIT, LINE_LIMIT, List, Option, Some, TooLong, WordFault, fault_of, if◌then◌else◌, length, min, nat_lt, take}
 
 -- the first bytes of a line, one more than a line may have, and how many bytes it has
 pub record Begun : Type 0 where

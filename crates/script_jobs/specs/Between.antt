@@ -1,7 +1,6 @@
 -- Which events of a run are drawn, by their times.
-use Rattle.std.specs.Prelude.{ℕ, ◌+◌, ◌-◌, max, min, nat_le, Option, None, Some, List, [], ◌∷◌, if◌then◌else◌}
+use Rattle.script_jobs.specs.Words.{[], ℕ, ◌+◌, ◌-◌, ◌∷◌, Between, List, None, Option, Some, if◌then◌else◌, max, min, nat_le}
 use Rattle.run_picture.specs.declared.view.View.{View as Seen}
-use Rattle.script_jobs.specs.declared.between.Between.{Between}
 
 -- how many of the times, from the first on, come before the moment
 unfoldable pub count_before : ℕ → List ℕ → ℕ

@@ -1,10 +1,6 @@
 -- The first line by which two texts differ.
-use Rattle.std.specs.Prelude.{◌≡◌, ◌≢◌, ◌⊎◌, ℕ, ◌+◌, false, List, [], ◌∷◌, ◌++◌, length}
-use Rattle.std.specs.Prelude.{codes}
-use Rattle.std.specs.Fmt.{decimal}
-use Rattle.std.specs.List.{flat_map}
+use Rattle.script_jobs.specs.Words.{[], ℕ, ◌++◌, ◌+◌, ◌∷◌, ◌≡◌, ◌≢◌, ◌⊎◌, CutsLine, List, codes, decimal, false, flat_map, has_feed, length}
 use Rattle.refusal_reasons.specs.Shown.{shown_text}
-use Rattle.scope_script.specs.Cutting.{has_feed, CutsLine}
 
 -- a line with its line feed
 abbrev pub ended : List ℕ → List ℕ

@@ -1,11 +1,5 @@
 -- How much of a script was understood.
-use Rattle.std.specs.Prelude.{ℕ, Bool, true, false, ◌==◌, ◌&&◌, nat_lt, List, [], ◌∷◌}
-use Rattle.scope_rules.specs.declared.types.capacity.Limits.{Limits}
-use Rattle.scope_rules.specs.History.{History}
-use Rattle.scope_script.specs.Sessions.{realm_of_script}
-use Rattle.scope_script.specs.Tallies.{tally_of_script}
-use Rattle.scope_script.specs.declared.session.tally.Tally.{Tally}
-use Rattle.script_jobs.specs.declared.counting.Count.{Count}
+use Rattle.script_jobs.specs.Words.{[], ℕ, ◌&&◌, ◌==◌, ◌∷◌, Bool, Count, History, Limits, List, Tally, false, nat_lt, realm_of_script, tally_of_script, true}
 
 abbrev pub is_nil : {A : Type 0} → List A → Bool
 is_nil [] = true

@@ -1,12 +1,5 @@
 -- That a line has a note of a refusal just where it is refused.
-use Rattle.std.specs.Prelude.{◌≡◌, Ok, Err}
-use Rattle.scope_rules.specs.Checks.{Checked}
-use Rattle.scope_rules.specs.Replies.{Realm}
-use Rattle.script_words.specs.declared.commands.Command.{Command}
-use Rattle.script_words.specs.declared.reply.Reply.{Reply}
-use Rattle.script_words.specs.declared.reply.Reply.TheVariants.{Refused}
-use Rattle.scope_script.specs.Replying.{reply_to}
-use Rattle.refusal_reasons.specs.Fits.{refusing}
+use Rattle.script_jobs.specs.Words.{◌≡◌, Checked, Command, Err, Ok, Realm, Refused, Reply, refusing, reply_to}
 use Rattle.script_jobs.specs.Whys.{command_reason}
 
 -- what a reply says that a command was refused for

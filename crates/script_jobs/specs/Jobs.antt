@@ -1,27 +1,7 @@
 -- What a job on a script has read and made.
-use Rattle.std.specs.Prelude.{◌≡◌, ◌++◌, ℕ, Option, None, Some, List, [], ◌∷◌}
-use Rattle.std.specs.Io.KnownBytes.{Appends, Consumes, IsAtEnd}
-use Rattle.scope_rules.specs.declared.types.capacity.Limits.{Limits}
-use Rattle.scope_script.specs.Sessions.{replies_of, realm_of_script}
-use Rattle.scope_script.specs.Streams.{AppendsPart}
-use Rattle.script_jobs.specs.Between.{seen_between}
-use Rattle.script_jobs.specs.Counts.{count_of_script}
-use Rattle.script_jobs.specs.declared.counting.Count.{Count}
-use Rattle.scope_rules.specs.History.{History}
-use Rattle.tree_dump.specs.Tree.{dump_text}
-use Rattle.tree_dump.specs.Ages.{Clock, no_clock}
-use Rattle.tree_dump.specs.Timed.{timed_dump_text}
-use Rattle.tree_dump.specs.TreeParts.{part_text}
-use Rattle.tree_dump.specs.declared.parts.TreePart.{TreePart}
-use Rattle.run_picture.specs.Picture.{drawn_text}
-use Rattle.run_picture.specs.Stamps.{fork_times, open_times, start_times}
-use Rattle.run_picture.specs.Trace.{trace_text}
-use Rattle.script_jobs.specs.Notes.{notes_text}
-use Rattle.script_jobs.specs.Times.{Stamps, stamps_of_script}
-use Rattle.script_jobs.specs.Turns.{Turn}
-use Rattle.script_jobs.specs.declared.notes.Notes.{Notes}
-use Rattle.script_jobs.specs.declared.showing.View.{View}
-use Rattle.script_jobs.specs.declared.showing.View.TheVariants.{Dump, TimedDump, Tree, Timeline, TraceEvents}
+use Rattle.script_jobs.specs.Words.{[], ℕ, ◌++◌, ◌∷◌, ◌≡◌, Appends, AppendsPart, Clock, Consumes, Count, Dump, History, IsAtEnd, Limits, List, None, Notes, Option, Some, TimedDump, Timeline}
+use Rattle.script_jobs.specs.Words.{TraceEvents, Tree, TreePart, View, clock_by, drawn_text, dump_text, part_text, realm_of_script, replies_of, timed_dump_text, trace_text}
+use Rattle.script_jobs.specs.{Between.seen_between, Counts.count_of_script, Notes.notes_text, Times.Stamps, Times.stamps_of_script, Turns.Turn}
 
 -- all bytes were read, and exactly the replies to them were written, in a realm of these limits, which refused so many
 -- lines
@@ -45,12 +25,8 @@ pub record ReplayedPartly (taken written said : Turn) (limits : Limits) (notes :
   pub noted : AppendsPart said.before said.after (notes_text notes limits script)
 
 -- the clock of a tree: without times there is none
-abbrev pub clock_by : History → Stamps → List ℕ → Clock
-clock_by h s [] = no_clock
-clock_by h s (t ∷ times) = record { now = Some s.last; forked = fork_times h s.events; started = start_times h s.events; opened = open_times h s.events }
-
 abbrev pub clock_in : History → Stamps → Clock
-clock_in h s = clock_by h s s.events
+clock_in h s = clock_by h s.events s.last
 
 -- the tree by a clock: a part of it as text, or the second format of the dump
 abbrev pub aged_text : Option TreePart → Limits → Clock → History → List ℕ

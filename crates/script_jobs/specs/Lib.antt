@@ -16,3 +16,25 @@ pub mod Times
 pub mod Made
 pub mod Turns
 pub mod Paging
+pub mod Words
+unfoldable pub use Words.*
+unfoldable pub use Begun.*
+unfoldable pub use Between.*
+pub use Comparing.*
+pub use Counts.*
+pub use Fits.*
+pub use Jobs.*
+unfoldable pub use LineLaws.*
+pub use Made.*
+pub use NoteLaws.*
+unfoldable pub use Notes.*
+pub use Noting.*
+pub use Paging.*
+pub use Passed.*
+pub use Prompting.*
+pub use Scripts.*
+unfoldable pub use Times.*
+pub use Turns.*
+unfoldable pub use Whys.*
+pub use Made.{ended}
+pub use Rattle.script_jobs.specs.declared.session.NotedScript.{NotedScript}

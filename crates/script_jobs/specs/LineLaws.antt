@@ -1,10 +1,6 @@
 -- That the line which is known of an event is the one whose command recorded it.
-use Rattle.std.specs.Prelude.{◌≡◌, ◌+◌, ◌<◌, ℕ, List, [], ◌∷◌, ◌++◌, length, slice_get, Some}
-use Rattle.scope_rules.specs.declared.types.capacity.Limits.{Limits}
-use Rattle.scope_rules.specs.declared.types.events.Event.{Event}
-use Rattle.script_words.specs.declared.commands.Command.TheVariants.{Do}
+use Rattle.script_jobs.specs.Words.{[], ℕ, ◌++◌, ◌+◌, ◌<◌, ◌∷◌, ◌≡◌, Do, Event, Limits, List, Some, length, line_said, slice_get}
 use Rattle.script_words.specs.declared.commands.Line.TheVariants.{Command}
-use Rattle.script_words.specs.Lines.{line_said}
 use Rattle.script_jobs.specs.Noting.{Noting, noting_after, noting_begins}
 
 -- a script under way after more lines

@@ -1,9 +1,6 @@
 -- What a script is that was made: lines that are answered, each.
-use Rattle.std.specs.Prelude.{◌≡◌, ℕ, ◌==◌, ◌&&◌, Bool, true, false, not, List, [], ◌∷◌, ◌++◌, length}
-use Rattle.std.specs.List.{flat_map, list_all, list_any}
-use Rattle.script_words.specs.declared.commands.Line.{Line}
-use Rattle.script_words.specs.declared.commands.Line.TheVariants.{Silent, BadWord, Command}
-use Rattle.script_words.specs.Lines.{line_said}
+use Rattle.script_jobs.specs.Words.{[], ℕ, ◌&&◌, ◌++◌, ◌==◌, ◌∷◌, ◌≡◌, BadWord, Bool, Line, List, Silent, false, flat_map, length, line_said, list_all, list_any, not, true}
+use Rattle.script_words.specs.declared.commands.Line.TheVariants.{Command}
 
 abbrev pub is_answered : Line → Bool
 is_answered Silent = false

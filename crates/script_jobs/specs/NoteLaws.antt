@@ -1,18 +1,8 @@
 -- That notes fit the lines that they are on.
-use Rattle.std.specs.Prelude.{◌≡◌, ◌⊎◌, ℕ, Bool, true, false, not, List, [], ◌∷◌, ◌++◌, codes, if◌then◌else◌}
-use Rattle.std.specs.Fmt.{decimal}
-use Rattle.scope_rules.specs.Replies.{Realm}
-use Rattle.script_words.specs.declared.commands.Line.{Line}
-use Rattle.script_words.specs.declared.commands.Line.TheVariants.{Silent, BadWord, Command}
-use Rattle.script_words.specs.Lines.{line_said}
-use Rattle.scope_script.specs.Replying.{reply_to}
-use Rattle.scope_script.specs.Tallies.{is_refused, one_more, tally_after_line}
-use Rattle.scope_script.specs.declared.session.tally.Tally.{Tally}
-use Rattle.script_jobs.specs.Begun.{Begun}
-use Rattle.script_jobs.specs.Noting.{Noting}
-use Rattle.script_jobs.specs.Notes.{line_note}
-use Rattle.script_jobs.specs.declared.notes.Notes.{Notes}
-use Rattle.script_jobs.specs.declared.notes.Notes.TheVariants.{Refusals}
+use Rattle.script_jobs.specs.Words.{[], ℕ, ◌++◌, ◌∷◌, ◌≡◌, ◌⊎◌, BadWord, Bool, Line, List, Notes, Realm, Refusals, Silent, Tally, codes, decimal, false, if◌then◌else◌, is_refused, line_said, not}
+use Rattle.script_jobs.specs.Words.{one_more, reply_to, tally_after_line, true}
+use Rattle.script_words.specs.declared.commands.Line.TheVariants.{Command}
+use Rattle.script_jobs.specs.{Begun.Begun, Notes.line_note, Noting.Noting}
 
 abbrev pub no_text : List ℕ → Bool
 no_text [] = true

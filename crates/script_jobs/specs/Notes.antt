@@ -1,27 +1,10 @@
 -- The notes on a script.
-use Rattle.std.specs.Prelude.{ℕ, ◌==◌, List, [], ◌∷◌, ◌++◌, length, Option, Some, None, codes, if◌then◌else◌}
-use Rattle.std.specs.Fmt.{decimal}
-use Rattle.scope_rules.specs.declared.types.capacity.Limits.{Limits}
-use Rattle.scope_rules.specs.declared.types.refusals.Refusal.TheVariants.{BadWord as bad_word}
-use Rattle.script_words.specs.declared.commands.Command.{Command}
-use Rattle.script_words.specs.declared.commands.Line.{Line}
-use Rattle.script_words.specs.declared.commands.Line.TheVariants as line_is
-use Rattle.script_words.specs.Lines.{line_said}
-use Rattle.script_words.specs.declared.reply.Reply.{Reply}
-use Rattle.script_words.specs.declared.reply.Reply.TheVariants.{Refused}
-use Rattle.script_words.specs.ReplyText.{reply_text}
-use Rattle.scope_script.specs.Cutting.{ended_lines, begun_line}
-use Rattle.scope_script.specs.Replying.{reply_to}
-use Rattle.refusal_reasons.specs.LinePlaces.{picture_text, place_of}
+use Rattle.script_jobs.specs.Words.{[], ℕ, ◌++◌, ◌==◌, ◌∷◌, All, Command, Limits, Line, List, None, Notes, Option, Place, Refusals, Refused, Reply, Some, Why, begun_line, codes, decimal, ended_lines}
+use Rattle.script_jobs.specs.Words.{if◌then◌else◌, length, line_said, picture_text, place_of, reply_text, reply_to}
 use Rattle.refusal_reasons.specs.Shown.{shown_text}
-use Rattle.refusal_reasons.specs.declared.line_places.Place.{Place}
-use Rattle.script_jobs.specs.Begun.{Begun, begun_by, fault_in, grown, no_line}
-use Rattle.script_jobs.specs.Noting.{Noting, noting_after, noting_begins}
-use Rattle.script_jobs.specs.declared.notes.Notes.{Notes}
-use Rattle.script_jobs.specs.declared.notes.Notes.TheVariants.{Refusals, Replies, All}
-use Rattle.script_jobs.specs.declared.whys.Why.{Why}
-use Rattle.script_jobs.specs.declared.whys.Why.TheVariants as why
-use Rattle.script_jobs.specs.Whys.{command_why, why_text}
+use Rattle.scope_rules.specs.declared.types.refusals.Refusal.TheVariants.{BadWord as bad_word}
+use Rattle.script_jobs.specs.{Begun.Begun, Begun.begun_by, Begun.fault_in, Begun.grown, Begun.no_line, Noting.Noting, Noting.noting_after, Noting.noting_begins, Whys.command_why, Whys.why_text}
+use Rattle.script_jobs.specs.declared.notes.Notes.TheVariants.{Replies}
 
 -- `line N: TEXT`
 abbrev pub head_text : ℕ → List ℕ → List ℕ
@@ -37,12 +20,12 @@ place_text n place = codes "line " ++ (decimal n ++ (codes ", column " ++ decima
 
 -- how the note of a refused line begins: a word that is wrong has a place
 abbrev pub refused_text : ℕ → List ℕ → Why → List ℕ
-refused_text n line (why.BadWord (Some fault)) = place_text n (place_of line fault)
+refused_text n line (Why.BadWord (Some fault)) = place_text n (place_of line fault)
 refused_text n line w = head_text n line
 
 -- what stands below it: the line with that place
 abbrev pub below_text : List ℕ → Why → List ℕ
-below_text line (why.BadWord (Some fault)) = picture_text line (place_of line fault)
+below_text line (Why.BadWord (Some fault)) = picture_text line (place_of line fault)
 below_text line w = []
 
 -- why, behind a line's words, and what stands below
@@ -73,9 +56,9 @@ done_note wanted s line c = note wanted s.lines s.number line (reply_to s.realm 
 
 -- the note of the next line, which says this
 abbrev pub said_note : Notes → Noting → Begun → Line → List ℕ
-said_note wanted s begun line_is.Silent = []
-said_note wanted s begun line_is.BadWord = bad_note wanted s begun.first (why.BadWord (fault_in begun))
-said_note wanted s begun (line_is.Command c) = done_note wanted s begun.first c
+said_note wanted s begun Line.Silent = []
+said_note wanted s begun Line.BadWord = bad_note wanted s begun.first (Why.BadWord (fault_in begun))
+said_note wanted s begun (Line.Command c) = done_note wanted s begun.first c
 
 -- the note of the next line, of which that is kept; what is kept decides what the line says
 unfoldable pub line_note : Notes → Noting → Begun → List ℕ
@@ -83,7 +66,7 @@ line_note wanted s begun = said_note wanted s begun (line_said begun.first)
 
 -- the note of a last line that no line feed ends; no bytes are no line
 unfoldable pub cut_note : Notes → Noting → Begun → List ℕ
-cut_note wanted s begun = if length begun.first == 0 then [] else bad_note wanted s begun.first why.Cut
+cut_note wanted s begun = if length begun.first == 0 then [] else bad_note wanted s begun.first Why.Cut
 
 -- ---- of a whole script
 

@@ -1,12 +1,5 @@
 -- A script under way whose lines get notes.
-use Rattle.std.specs.Prelude.{ℕ, ◌==◌, nat_lt, List, [], ◌∷◌, ◌++◌, length, if◌then◌else◌}
-use Rattle.scope_rules.specs.declared.types.capacity.Limits.{Limits}
-use Rattle.scope_rules.specs.History.{History}
-use Rattle.scope_rules.specs.Origin.{the_start}
-use Rattle.scope_rules.specs.Replies.{Realm, starting}
-use Rattle.script_words.specs.declared.commands.Line.{Line}
-use Rattle.scope_script.specs.Sessions.{realm_after_line}
-use Rattle.scope_script.specs.Tallies.{one_more}
+use Rattle.script_jobs.specs.Words.{[], ℕ, ◌++◌, ◌==◌, ◌∷◌, History, Limits, Line, List, Realm, if◌then◌else◌, length, nat_lt, one_more, realm_after_line, starting, the_start}
 
 -- the realm, of each event since its base the number of the line whose command recorded it, and the number of the next
 -- line

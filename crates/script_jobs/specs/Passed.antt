@@ -1,10 +1,6 @@
 -- How far the tasks of scopes have ended.
-use Rattle.std.specs.Prelude.{◌≡◌, ℕ, ◌<◌, ◌≤◌, true, Some, length, slice_get}
+use Rattle.script_jobs.specs.Words.{ℕ, ◌<◌, ◌≡◌, ◌≤◌, History, Some, is_settled, length, nat_cmp, slice_get, stage, tasks_of, true}
 use Rattle.std.specs.BTreeMap as tree
-use Rattle.std.specs.Ordering.{nat_cmp}
-use Rattle.scope_rules.specs.History.{History}
-use Rattle.scope_rules.specs.Nests.{tasks_of}
-use Rattle.scope_rules.specs.Tasks.{stage, is_settled}
 
 -- the first n tasks of scope s neither wait nor run
 pub record ArePassed (h : History) (s n : ℕ) : Type 0 where

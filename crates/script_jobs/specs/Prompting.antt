@@ -1,7 +1,5 @@
 -- A script that a person types at a prompt.
-use Rattle.std.specs.Prelude.{◌≡◌, ℕ, Bool, false, List, ◌++◌}
-use Rattle.scope_rules.specs.declared.types.capacity.Limits.{Limits}
-use Rattle.scope_script.specs.ByBytes.{after_bytes, the_beginning}
+use Rattle.script_jobs.specs.Words.{ℕ, ◌++◌, ◌≡◌, Bool, Limits, List, after_bytes, false, the_beginning}
 use Rattle.script_jobs.specs.Scripts.{plain_of}
 use Rattle.script_jobs.specs.declared.session.NotedScript.{NotedScript}
 

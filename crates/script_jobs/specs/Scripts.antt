@@ -1,15 +1,6 @@
 -- What a script of the code stands for: for its replies, and for the notes on its lines.
-use Rattle.scope_book.specs.Books.{realm_of}
-use Rattle.std.specs.Prelude.{◌≡◌}
-use Rattle.scope_rules.specs.declared.types.capacity.Limits.{Limits}
-use Rattle.scope_script.specs.ByBytes.{Session, the_beginning}
-use Rattle.scope_script.specs.KeptLines.{kept}
-use Rattle.script_jobs.specs.Noting.{Noting}
-use Rattle.script_jobs.specs.Notes.{NoteSession, notes_begin}
-use Rattle.script_jobs.specs.Jobs.{ReplayedNoted, ReplayedPartly}
-use Rattle.script_jobs.specs.Turns.{Turn}
-use Rattle.script_jobs.specs.declared.counting.Count.{Count}
-use Rattle.script_jobs.specs.declared.notes.Notes.{Notes}
+use Rattle.script_jobs.specs.Words.{◌≡◌, Count, Limits, Notes, Session, kept, realm_of, the_beginning}
+use Rattle.script_jobs.specs.{Jobs.ReplayedNoted, Jobs.ReplayedPartly, Notes.NoteSession, Notes.notes_begin, Noting.Noting, Turns.Turn}
 use Rattle.script_jobs.specs.declared.session.NotedScript.{NotedScript}
 
 -- the script under way as it is for its replies

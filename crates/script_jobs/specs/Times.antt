@@ -1,17 +1,6 @@
 -- Readings of a clock in a script: lines `# at MILLIS`, which say nothing to the realm.
-use Rattle.std.specs.Prelude.{ℕ, ◌&&◌, Bool, nat_le, nat_lt, is_some, unwrap_or, Option, None, Some, List, [], ◌∷◌, ◌++◌, length, codes, if◌then◌else◌}
-use Rattle.std.specs.List.{list_any}
-use Rattle.std.specs.Option.{option_and_then}
-use Rattle.std.specs.Str.{bytes_eq}
-use Rattle.scope_rules.specs.declared.types.capacity.Limits.{Limits}
-use Rattle.scope_rules.specs.Origin.{the_start}
-use Rattle.scope_rules.specs.Replies.{Realm, starting}
-use Rattle.script_words.specs.Fields.{fields, just_three}
-use Rattle.script_words.specs.Lines.{line_said}
-use Rattle.script_words.specs.Numbers.{moment_said}
-use Rattle.scope_script.specs.Cutting.{ended_lines}
-use Rattle.scope_script.specs.Sessions.{realm_after_line}
-use Rattle.script_jobs.specs.declared.times.Times.{Times}
+use Rattle.script_jobs.specs.Words.{[], ℕ, ◌&&◌, ◌++◌, ◌∷◌, Bool, Limits, List, None, Option, Realm, Some, Times, bytes_eq, codes, ended_lines, fields, if◌then◌else◌, is_some, just_three, length}
+use Rattle.script_jobs.specs.Words.{line_said, list_any, moment_said, nat_le, nat_lt, option_and_then, realm_after_line, starting, the_start, unwrap_or}
 
 abbrev pub small : ℕ → Option ℕ
 small n = if nat_le n 4294967295 then Some n else None

@@ -1,13 +1,5 @@
 -- Why a line is refused.
-use Rattle.std.specs.Prelude.{ℕ, List, Option, Some, None, Ok, Err, codes}
-use Rattle.scope_rules.specs.Replies.{Realm}
-use Rattle.script_words.specs.declared.commands.Command.{Command}
-use Rattle.script_words.specs.declared.commands.Command.TheVariants.{Do, Retire, Ask}
-use Rattle.refusal_reasons.specs.Reasons.{Explained, event_reason, retire_reason, query_reason}
-use Rattle.refusal_reasons.specs.Sentences.{sentence}
-use Rattle.refusal_reasons.specs.FaultSentences.{line_fault_text}
-use Rattle.script_jobs.specs.declared.whys.Why.{Why}
-use Rattle.script_jobs.specs.declared.whys.Why.TheVariants as why
+use Rattle.script_jobs.specs.Words.{ℕ, Ask, Command, Do, Err, Explained, List, None, Ok, Option, Realm, Retire, Some, Why, codes, event_reason, line_fault_text, query_reason, retire_reason, sentence}
 
 -- what is in the way of the command in the realm, if anything does
 unfoldable pub command_reason : Realm → Command → Explained
@@ -18,7 +10,7 @@ command_reason realm (Ask query) = query_reason realm.limits realm.history query
 -- that the reason is why, if there is one
 abbrev pub why_if : Explained → Option Why
 why_if (Ok done) = None
-why_if (Err r) = Some (why.Refused r)
+why_if (Err r) = Some (Why.Refused r)
 
 -- why the command is refused in the realm, if it is
 abbrev pub command_why : Realm → Command → Option Why
@@ -26,7 +18,7 @@ command_why realm c = why_if (command_reason realm c)
 
 -- the sentence that says why this line is refused, if of each event the line is known that recorded it
 abbrev pub why_text : (lines : List ℕ) → List ℕ → Why → List ℕ
-why_text lines line (why.Refused r) = sentence lines r
-why_text lines line (why.BadWord (Some fault)) = line_fault_text line fault
-why_text lines line (why.BadWord None) = codes "the line is not a command"
-why_text lines line why.Cut = codes "the line does not end with a line feed"
+why_text lines line (Why.Refused r) = sentence lines r
+why_text lines line (Why.BadWord (Some fault)) = line_fault_text line fault
+why_text lines line (Why.BadWord None) = codes "the line is not a command"
+why_text lines line Why.Cut = codes "the line does not end with a line feed"

@@ -1,6 +1,5 @@
 //! The first line by which replies differ from those that were expected.
-ghost use Rattle.std.specs.Prelude.{◌≡◌, IfSome, MatchOption, Some};
-ghost use Rattle.script_jobs.specs.Comparing.{BeginAlike, DiffersAt, IsFirst, difference_text};
+ghost use Rattle.script_jobs.specs.{◌≡◌, BeginAlike, DiffersAt, IfSome, IsFirst, MatchOption, Some, difference_text};
 
 use refusal_reasons::ShownBytes;
 use scope_script::first_line;

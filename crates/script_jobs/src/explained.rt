@@ -1,12 +1,6 @@
 //! What a script leaves, as it is shown, with notes on its lines.
-ghost use Rattle.std.specs.Prelude.{◌≡◌, ◌⊎◌, [], false, true, IfOk, OnOk, OnErr, IsErrOf, string_bytes};
-ghost use Rattle.std.specs.Io.KnownBytes.{Appends};
-ghost use Rattle.script_jobs.specs.Jobs.{NotedPartly, ShowedNoted};
-ghost use Rattle.scope_rules.specs.declared.types.capacity.Limits.{Limits};
-ghost use Rattle.scope_script.specs.Streams.{AppendsPart};
-ghost use Rattle.script_jobs.specs.Notes.{bytes_note, end_note, noted_bytes, notes_begin, notes_text};
-ghost use Rattle.script_jobs.specs.Scripts.{noted_of};
-ghost use Rattle.script_jobs.specs.Turns.{turn};
+ghost use Rattle.script_jobs.specs.{[], ◌≡◌, ◌⊎◌, Appends, AppendsPart, IfOk, IsErrOf, Limits, NotedPartly, OnErr, OnOk, ShowedNoted, bytes_note, end_note, false, noted_bytes, noted_of, notes_begin};
+ghost use Rattle.script_jobs.specs.{notes_text, string_bytes, true, turn};
 
 use crate::Notes;
 use crate::noting::{NOTED_PIECE, NotedFault};

@@ -1,8 +1,6 @@
 //! That just the refused lines are explained. The function changes nothing: its contract is the law.
 
-ghost use Rattle.script_jobs.specs.Fits.{RepliesFit};
-ghost use Rattle.script_jobs.specs.LineLaws.{LinesRecord};
-ghost use Rattle.script_jobs.specs.NoteLaws.{NotedAreCounted, NotesAreNumbered, RefusedAreNoted};
+ghost use Rattle.script_jobs.specs.{LinesRecord, NotedAreCounted, NotesAreNumbered, RefusedAreNoted, RepliesFit};
 
 use refusal_reasons::laws::reasons_fit;
 

@@ -1,6 +1,5 @@
 //! A random script, line by line.
-ghost use Rattle.std.specs.Prelude.{◌≡◌, ◌++◌, true, IfOk, OnOk, string_bytes};
-ghost use Rattle.script_jobs.specs.Made.{IsScript, OneMore, ended, is_answered_line};
+ghost use Rattle.script_jobs.specs.{◌++◌, ◌≡◌, IfOk, IsScript, OnOk, OneMore, ended, is_answered_line, string_bytes, true};
 
 use crate::phrases::Phrases;
 use script_words::laws::line_says_the_command;

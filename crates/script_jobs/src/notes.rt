@@ -1,6 +1,5 @@
 //! The note of a line.
-ghost use Rattle.std.specs.Prelude.{Some};
-ghost use Rattle.script_jobs.specs.Notes.{head_text, replied_text, refused_text, below_text, why_below, note};
+ghost use Rattle.script_jobs.specs.{Some, below_text, head_text, note, refused_text, replied_text, why_below};
 
 use crate::whys::{ShownWhy, Why};
 use refusal_reasons::{ShownBytes, ShownPlace, place_of};

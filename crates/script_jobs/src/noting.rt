@@ -1,14 +1,6 @@
 //! The replies to a script, with notes on its lines, line by line.
-ghost use Rattle.std.specs.Prelude.{◌≡◌, ◌⊎◌, ◌<◌, [], false, true, length, IfOk, OnOk, OnErr, IsErrOf};
-ghost use Rattle.std.specs.Io.KnownBytes.{Appends};
-ghost use Rattle.scope_book.specs.Books.{history_of};
-ghost use Rattle.scope_script.specs.ByBytes.{after_bytes, bytes_reply, end_reply, end_tally};
-ghost use Rattle.scope_script.specs.Streams.{AppendsPart};
-ghost use Rattle.script_jobs.specs.Counts.{count_in};
-ghost use Rattle.script_jobs.specs.Jobs.{ReplayedNoted, ReplayedPartly};
-ghost use Rattle.script_jobs.specs.Notes.{bytes_note, end_note, noted_bytes, notes_begin};
-ghost use Rattle.script_jobs.specs.Scripts.{ReplaysFrom, StopsFrom, noted_of, plain_of};
-ghost use Rattle.script_jobs.specs.Turns.{turn};
+ghost use Rattle.script_jobs.specs.{[], ◌<◌, ◌≡◌, ◌⊎◌, Appends, AppendsPart, IfOk, IsErrOf, OnErr, OnOk, ReplayedNoted, ReplayedPartly, ReplaysFrom, StopsFrom, after_bytes, bytes_note, bytes_reply};
+ghost use Rattle.script_jobs.specs.{count_in, end_note, end_reply, end_tally, false, history_of, length, noted_bytes, noted_of, notes_begin, plain_of, true, turn};
 
 use crate::Notes;
 use crate::counting::Count;

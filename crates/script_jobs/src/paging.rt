@@ -1,13 +1,6 @@
 //! The page of what a script leaves.
-ghost use Rattle.std.specs.Prelude.{◌≡◌, ◌⊎◌, [], false, true, IfOk, IfErr, OnErr, IsErrOf, string_bytes};
-ghost use Rattle.std.specs.Io.KnownBytes.{Appends};
-ghost use Rattle.scope_book.specs.Books.{history_of};
-ghost use Rattle.scope_script.specs.Sessions.{realm_of_script};
-ghost use Rattle.run_picture.specs.Page.{IsPageOf};
-ghost use Rattle.script_jobs.specs.Counts.{count_in, count_of_script};
-ghost use Rattle.script_jobs.specs.Jobs.{ReadSome};
-ghost use Rattle.script_jobs.specs.Paging.{Paged};
-ghost use Rattle.script_jobs.specs.Times.{stamps_of_script};
+ghost use Rattle.script_jobs.specs.{[], ◌≡◌, ◌⊎◌, Appends, IfErr, IfOk, IsErrOf, IsPageOf, OnErr, Paged, ReadSome, count_in, count_of_script, false, history_of, realm_of_script, stamps_of_script};
+ghost use Rattle.script_jobs.specs.{string_bytes, true};
 
 use crate::counting::count_of;
 use crate::showing::Rendering;

@@ -1,6 +1,5 @@
 //! Random commands, as lines without their line feeds. A book is told each of them, so that most are accepted.
-ghost use Rattle.scope_book.specs.Books.{history_of, limits_of};
-ghost use Rattle.scope_rules.specs.Legal.{Legal};
+ghost use Rattle.script_jobs.specs.{Legal, history_of, limits_of};
 
 use crate::random::Random;
 use scope_book::BookState;

@@ -1,6 +1,5 @@
 //! A replay at a terminal: each line is answered and explained at once.
-ghost use Rattle.std.specs.Prelude.{◌≡◌, ◌⊎◌, ◌++◌, ◌∷◌, ◌≤◌, ◌<◌, [], false, true, length, OnOk, IsErrOf};
-ghost use Rattle.script_jobs.specs.Prompting.{IsBeginning, Stands, StandsUnless};
+ghost use Rattle.script_jobs.specs.{[], ◌++◌, ◌<◌, ◌∷◌, ◌≡◌, ◌≤◌, ◌⊎◌, IsBeginning, IsErrOf, OnOk, Stands, StandsUnless, false, length, true};
 
 use crate::Notes;
 use crate::command_helps::help_on;

@@ -1,5 +1,5 @@
 //! Numbers that look random, by the generator SplitMix64.
-ghost use Rattle.std.specs.Prelude.{◌<◌};
+ghost use Rattle.script_jobs.specs.{◌<◌};
 
 /// A sequence of numbers that its first state decides.
 #[derive(Drop)]

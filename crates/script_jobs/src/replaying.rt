@@ -1,7 +1,5 @@
 //! The replies to a script.
-ghost use Rattle.std.specs.Prelude.{◌≡◌, ◌⊎◌, false, true, IfOk, OnErr, IsErrOf};
-ghost use Rattle.scope_script.specs.Running.{RunsPartly};
-ghost use Rattle.script_jobs.specs.Jobs.{Replayed};
+ghost use Rattle.script_jobs.specs.{◌≡◌, ◌⊎◌, IfOk, IsErrOf, OnErr, Replayed, RunsPartly, false, true};
 
 use crate::counting::{Count, count_of};
 use scope_rules::Limits;

@@ -1,20 +1,8 @@
 //! A script under way whose lines get notes.
-ghost use Rattle.std.specs.Prelude.{◌≡◌, ◌++◌, ◌∷◌, [], Some, IfOk, OnOk, OnErr, length, string_bytes};
-ghost use Rattle.scope_rules.specs.History.{History};
-ghost use Rattle.scope_book.specs.Books.{history_of, limits_of, realm_of};
-ghost use Rattle.scope_rules.specs.Legal.{Legal};
-ghost use Rattle.script_words.specs.Lines.{line_said};
-ghost use Rattle.script_words.specs.ReplyText.{reply_text};
-ghost use Rattle.scope_script.specs.ByBytes.{after_bytes, bytes_reply, end_reply, end_tally, the_beginning};
-ghost use Rattle.scope_script.specs.Replying.{realm_after, reply_to};
-ghost use Rattle.scope_script.specs.Sessions.{bad_word_line, line_reply, realm_after_line};
-ghost use Rattle.scope_script.specs.Streams.{AppendsPart};
-ghost use Rattle.scope_script.specs.Tallies.{tally_after_line, with_bad_word, with_reply};
-ghost use Rattle.script_jobs.specs.Begun.{no_line};
-ghost use Rattle.script_jobs.specs.Counts.{count_in};
-ghost use Rattle.script_jobs.specs.Noting.{lines_after, noting_after};
-ghost use Rattle.script_jobs.specs.Notes.{bad_note, bytes_note, done_note, end_note, line_note, note, noted_bytes, notes_begin, said_note};
-ghost use Rattle.script_jobs.specs.Scripts.{noted_of, noting_of, plain_of};
+ghost use Rattle.script_jobs.specs.{[], ◌++◌, ◌∷◌, ◌≡◌, AppendsPart, History, IfOk, Legal, OnErr, OnOk, Some, after_bytes, bad_note, bad_word_line, bytes_note, bytes_reply, count_in, done_note};
+ghost use Rattle.script_jobs.specs.{end_note, end_reply, end_tally, history_of, length, limits_of, line_note, line_reply, line_said, lines_after, no_line, note, noted_bytes, noted_of, notes_begin};
+ghost use Rattle.script_jobs.specs.{noting_after, noting_of, plain_of, realm_after, realm_after_line, realm_of, reply_text, reply_to, said_note, string_bytes, tally_after_line, the_beginning};
+ghost use Rattle.script_jobs.specs.{with_bad_word, with_reply};
 
 use crate::begun::BegunLine;
 use crate::counting::{Count, count_in, no_refusals, one_more, with_bad_word, with_reply};

@@ -1,27 +1,18 @@
 //! What a script leaves, as it is shown.
-ghost use Rattle.std.specs.Prelude.{◌≡◌, ◌⊎◌, ◌++◌, [], ◌∷◌, false, true, IfOk, IfErr, OnErr, IsErrOf, string_bytes};
-ghost use Rattle.std.specs.Io.KnownBytes.{Appends};
-ghost use Rattle.scope_book.specs.Books.{history_of};
-ghost use Rattle.tree_dump.specs.Tree.{dump_text};
-ghost use Rattle.scope_script.specs.Sessions.{realm_of_script};
-ghost use Rattle.script_jobs.specs.Counts.{count_in, count_of_script};
-ghost use Rattle.script_jobs.specs.Jobs.{ReadSome, Showed, aged_text, clock_in, shown_text};
-ghost use Rattle.tree_dump.specs.Ages.{clock_of};
-ghost use Rattle.run_picture.specs.Picture.{drawn_text};
-ghost use Rattle.run_picture.specs.Trace.{trace_text};
-ghost use Rattle.script_jobs.specs.Times.{stamps_of, stamps_of_script};
+ghost use Rattle.script_jobs.specs.{[], ◌++◌, ◌∷◌, ◌≡◌, ◌⊎◌, Appends, IfErr, IfOk, IsErrOf, OnErr, ReadSome, Showed, aged_text, clock_in, clock_of, count_in, count_of_script, drawn_text, dump_text};
+ghost use Rattle.script_jobs.specs.{false, history_of, realm_of_script, shown_text, stamps_of, stamps_of_script, string_bytes, trace_text, true};
 
 use crate::between::Between;
 use crate::counting::{Count, count_of};
 use crate::times::{Times, times_of};
 use crate::whole::read_whole;
-use run_picture::{Drawn, fork_times, open_times, picture_with, start_times, trace_of};
+use run_picture::{Drawn, picture_with, trace_of};
 use scope_book::BookState;
 use scope_rules::{AnyEnd, Limits};
 use scope_script::{Mode, Ran, ScriptFault, Watched, run_tallied, run_text};
 use std::alloc::{AllocError, Global};
 use std::io::{Read, Write};
-use tree_dump::{Ages, TreePart, dump, timed_dump, tree_part};
+use tree_dump::{Ages, KeptAges, TreePart, dump, timed_dump, tree_part};
 
 /// How what a script leaves is shown.
 #[derive(Clone, Copy)]
@@ -263,20 +254,9 @@ pub(crate) fn aged_text(
 ) -> Result<String, AllocError>
     ensures { IfOk result (λ text. string_bytes text ≡ aged_text part limits (clock_in (history_of book.now) (stamps_of times.now)) (history_of book.now)) }
 {
-    if times.events.is_empty() {
-        return aged_by(alloc, limits, book, &Ages::none(), part);
-    }
     let events = book.realm().copied_events(alloc)?;
-    let forked = fork_times(alloc, book.realm(), &times.events)?;
-    let started = start_times(alloc, book.realm(), &events, &times.events)?;
-    let opened = open_times(alloc, book.realm(), &times.events)?;
-    let ages = Ages {
-        last: Some(times.last),
-        forked: &forked,
-        started: &started,
-        opened: &opened,
-    };
-    aged_by(alloc, limits, book, &ages, part)
+    let kept = KeptAges::new(alloc, book.realm(), &events, &times.events, times.last)?;
+    aged_by(alloc, limits, book, &kept.lent(), part)
 }
 
 /// The same by these ages.

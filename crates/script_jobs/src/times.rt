@@ -1,14 +1,7 @@
 //! Readings of a clock in a script: lines `# at MILLIS`, which say nothing to the realm. MILLIS are milliseconds since
 //! the realm began, at most 2^32 - 1.
-ghost use Rattle.std.specs.Prelude.{◌≡◌, [], IfOk, OnOk};
-ghost use Rattle.scope_book.specs.Books.{history_of, limits_of, realm_of};
-ghost use Rattle.scope_rules.specs.Legal.{Legal};
-ghost use Rattle.scope_rules.specs.Origin.{the_start};
-ghost use Rattle.scope_rules.specs.Replies.{starting};
-ghost use Rattle.scope_script.specs.Cutting.{ended_lines};
-ghost use Rattle.scope_script.specs.Sessions.{realm_after_line};
-ghost use Rattle.script_words.specs.Lines.{line_said};
-ghost use Rattle.script_jobs.specs.Times.{at_line, has_reading, reading_of, small, stamped, stamps_from, stamps_of, stamps_of_script};
+ghost use Rattle.script_jobs.specs.{[], ◌≡◌, IfOk, Legal, OnOk, at_line, ended_lines, has_reading, history_of, limits_of, line_said, reading_of, realm_after_line, realm_of, small, stamped};
+ghost use Rattle.script_jobs.specs.{stamps_from, stamps_of, stamps_of_script, starting, the_start};
 
 use scope_book::BookState;
 use scope_rules::{AnyEnd, Limits};

@@ -1,7 +1,5 @@
 //! A script that is read whole.
-ghost use Rattle.std.specs.Prelude.{◌≡◌, ◌⊎◌, false, true, IfOk, OnErr, IsErrOf};
-ghost use Rattle.std.specs.Io.KnownBytes.{Consumes, IsAtEnd};
-ghost use Rattle.script_jobs.specs.Jobs.{ReadSome};
+ghost use Rattle.script_jobs.specs.{◌≡◌, ◌⊎◌, Consumes, IfOk, IsAtEnd, IsErrOf, OnErr, ReadSome, false, true};
 
 use scope_script::session::run::PIECE;
 use scope_script::{ScriptFault, Watched};

@@ -1,8 +1,5 @@
 //! Why a line is refused.
-ghost use Rattle.std.specs.Prelude.{◌≡◌, Some};
-ghost use Rattle.scope_book.specs.Books.{history_of, realm_of};
-ghost use Rattle.script_jobs.specs.Passed.{Knows};
-ghost use Rattle.script_jobs.specs.Whys.{command_reason, command_why, why_if, why_text};
+ghost use Rattle.script_jobs.specs.{◌≡◌, Knows, Some, command_reason, command_why, history_of, realm_of, why_if, why_text};
 
 use crate::passed::{PassedTasks, RealmEvents};
 use refusal_reasons::{

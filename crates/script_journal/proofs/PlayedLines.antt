@@ -22,9 +22,9 @@ use Rattle.scope_rules.specs.Texts.{value_text}
 use Rattle.scope_log.specs.LogText.{joiner_text, limit_text, expiry_text, shield_text}
 use Rattle.script_words.specs.Printable.{is_printable}
 use Rattle.script_words.proofs.PrintableText.{Shows, decimal_shows, signed_shows, name_shows}
-use Rattle.script_journal.specs.Script.{pair_text, event_line, moment_text, binds_text, events_text, script_text}
+use Rattle.script_journal.specs.Script.{pair_text, event_line, retire_text, moment_text, pairs_text, retire_behind, binds_text, events_text, script_text}
 use Rattle.scope_script.specs.Cutting.{ended_lines, begun_line}
-use Rattle.script_journal.specs.Journals.{moment_lines, NoLineIsLost}
+use Rattle.script_journal.specs.Journals.{moment_lines, bind_lines, beginning_lines, NoLineIsLost}
 
 -- ---- lines are printable
 
@@ -124,8 +124,23 @@ begun_events base es = ap (begun_line []) (sym (append-nil (events_text base es)
 
 -- ---- what the script begins with
 
-abbrev bind_line : Binding → List ℕ
+abbrev pub retire_line : List ℕ
+retire_line = codes "retire 0"
+
+abbrev pub bind_line : Binding → List ℕ
 bind_line pair = codes "bind 0 " ++ pair_text pair
+
+-- the lines that come to the moment, and those that come to main's bindings
+abbrev pub moment_said : ℕ → List (List ℕ)
+moment_said zero = []
+moment_said (suc n) = (codes "tick " ++ decimal (suc n)) ∷ retire_line ∷ []
+
+abbrev pub retire_said : List Binding → List (List ℕ)
+retire_said [] = []
+retire_said (pair ∷ pairs) = retire_line ∷ []
+
+abbrev pub binds_said : List Binding → List (List ℕ)
+binds_said pairs = map bind_line pairs ++ retire_said pairs
 
 bind_shows : (pair : Binding) → Shows (bind_line pair)
 bind_shows pair = simp (list_all-append, name_shows, value_shows)
@@ -133,42 +148,75 @@ bind_shows pair = simp (list_all-append, name_shows, value_shows)
 tick_shows : (n : ℕ) → Shows (codes "tick " ++ decimal n)
 tick_shows n = simp (decimal_shows)
 
-binds_then : (pairs : List Binding) (rest : List ℕ) → length (ended_lines [] (binds_text pairs ++ rest)) ≡ length pairs + length (ended_lines [] rest)
-unfolding binds_text
-binds_then pairs rest = ap length (ended_each bind_line bind_shows pairs rest) ∙ (length-append (map bind_line pairs) (ended_lines [] rest) ∙ ap (λ n. n + length (ended_lines [] rest)) (length-map pairs bind_line))
+ended_retire : (rest : List ℕ) → ended_lines [] (retire_text ++ rest) ≡ retire_line ∷ ended_lines [] rest
+ended_retire rest = ended_behind [] retire_line rest refl
 
-moment_then : (moment : ℕ) (rest : List ℕ) → length (ended_lines [] (moment_text moment ++ rest)) ≡ moment_lines moment + length (ended_lines [] rest)
-moment_then zero rest = omega arith
-moment_then (suc n) rest =
-    ap (λ t. length (ended_lines [] t)) (append_assoc (codes "tick " ++ decimal (suc n)) (10 ∷ []) rest)
-    ∙ (ap length (ended_behind [] (codes "tick " ++ decimal (suc n)) rest (tick_shows (suc n))) ∙ omega arith)
+begun_retire : (rest : List ℕ) → begun_line [] (retire_text ++ rest) ≡ begun_line [] rest
+begun_retire rest = begun_behind [] retire_line rest refl
+
+ended_moment : (moment : ℕ) (rest : List ℕ) → ended_lines [] (moment_text moment ++ rest) ≡ moment_said moment ++ ended_lines [] rest
+ended_moment zero rest = refl
+ended_moment (suc n) rest =
+    ap (ended_lines []) (append_assoc (codes "tick " ++ decimal (suc n)) (10 ∷ retire_text) rest)
+    ∙ (ended_behind [] (codes "tick " ++ decimal (suc n)) (retire_text ++ rest) (tick_shows (suc n)) ∙ ap (λ lines. (codes "tick " ++ decimal (suc n)) ∷ lines) (ended_retire rest))
 
 begun_moment : (moment : ℕ) (rest : List ℕ) → begun_line [] (moment_text moment ++ rest) ≡ begun_line [] rest
 begun_moment zero rest = refl
 begun_moment (suc n) rest =
-    ap (begun_line []) (append_assoc (codes "tick " ++ decimal (suc n)) (10 ∷ []) rest) ∙ begun_behind [] (codes "tick " ++ decimal (suc n)) rest (tick_shows (suc n))
+    ap (begun_line []) (append_assoc (codes "tick " ++ decimal (suc n)) (10 ∷ retire_text) rest)
+    ∙ (begun_behind [] (codes "tick " ++ decimal (suc n)) (retire_text ++ rest) (tick_shows (suc n)) ∙ begun_retire rest)
+
+ended_behind_pairs : (pairs : List Binding) (rest : List ℕ) → ended_lines [] (retire_behind pairs ++ rest) ≡ retire_said pairs ++ ended_lines [] rest
+ended_behind_pairs [] rest = refl
+ended_behind_pairs (pair ∷ pairs) rest = ended_retire rest
+
+begun_behind_pairs : (pairs : List Binding) (rest : List ℕ) → begun_line [] (retire_behind pairs ++ rest) ≡ begun_line [] rest
+begun_behind_pairs [] rest = refl
+begun_behind_pairs (pair ∷ pairs) rest = begun_retire rest
+
+ended_binds : (pairs : List Binding) (rest : List ℕ) → ended_lines [] (binds_text pairs ++ rest) ≡ binds_said pairs ++ ended_lines [] rest
+unfolding binds_text pairs_text
+ended_binds pairs rest =
+    ap (ended_lines []) (append_assoc (pairs_text pairs) (retire_behind pairs) rest)
+    ∙ (ended_each bind_line bind_shows pairs (retire_behind pairs ++ rest)
+    ∙ (ap (λ lines. map bind_line pairs ++ lines) (ended_behind_pairs pairs rest) ∙ sym (append_assoc (map bind_line pairs) (retire_said pairs) (ended_lines [] rest))))
 
 begun_binds : (pairs : List Binding) (rest : List ℕ) → begun_line [] (binds_text pairs ++ rest) ≡ begun_line [] rest
-unfolding binds_text
-begun_binds pairs rest = begun_each bind_line bind_shows pairs rest
+unfolding binds_text pairs_text
+begun_binds pairs rest =
+    ap (begun_line []) (append_assoc (pairs_text pairs) (retire_behind pairs) rest)
+    ∙ (begun_each bind_line bind_shows pairs (retire_behind pairs ++ rest) ∙ begun_behind_pairs pairs rest)
 
-events_count : (base : Origin) (es : List Event) → length (ended_lines [] (events_text base es)) ≡ length es
-events_count base es = ap length (ended_events base es) ∙ length-map es (event_line base)
+-- ---- all lines
+
+moment_count : (moment : ℕ) → length (moment_said moment) ≡ moment_lines moment
+moment_count zero = refl
+moment_count (suc n) = refl
+
+binds_count : (pairs : List Binding) → length (binds_said pairs) ≡ bind_lines pairs
+binds_count [] = refl
+binds_count (pair ∷ pairs) = length-append (map bind_line (pair ∷ pairs)) (retire_line ∷ []) ∙ ap (λ n. n + 1) (length-map (pair ∷ pairs) bind_line)
 
 module _ (h : History) where
   in_turn : script_text h ≡ moment_text h.base.moment ++ (binds_text h.base.binds ++ events_text h.base h.events)
   in_turn = append_assoc (moment_text h.base.moment) (binds_text h.base.binds) (events_text h.base h.events)
 
-  count : length (ended_lines [] (script_text h)) ≡ moment_lines h.base.moment + length h.base.binds + length h.events
-  count =
-      let first = moment_then h.base.moment (binds_text h.base.binds ++ events_text h.base h.events) in
-      let second = binds_then h.base.binds (events_text h.base h.events) in
-      ap (λ t. length (ended_lines [] t)) in_turn ∙ omega (arith, first, second, events_count h.base h.events)
+  pub all_lines : ended_lines [] (script_text h) ≡ moment_said h.base.moment ++ (binds_said h.base.binds ++ map (event_line h.base) h.events)
+  all_lines =
+      ap (ended_lines []) in_turn
+      ∙ (ended_moment h.base.moment (binds_text h.base.binds ++ events_text h.base h.events)
+      ∙ ap (λ lines. moment_said h.base.moment ++ lines) (ended_binds h.base.binds (events_text h.base h.events) ∙ ap (λ lines. binds_said h.base.binds ++ lines) (ended_events h.base h.events)))
 
-  ended : begun_line [] (script_text h) ≡ []
-  ended =
+  pub line_count : length (ended_lines [] (script_text h)) ≡ beginning_lines h.base + length h.events
+  line_count =
+      let first = length-append (moment_said h.base.moment) (binds_said h.base.binds ++ map (event_line h.base) h.events) in
+      let second = length-append (binds_said h.base.binds) (map (event_line h.base) h.events) in
+      ap length all_lines ∙ omega (arith, first, second, moment_count h.base.moment, binds_count h.base.binds, length-map h.events (event_line h.base))
+
+  pub all_ended : begun_line [] (script_text h) ≡ []
+  all_ended =
       ap (begun_line []) in_turn
       ∙ (begun_moment h.base.moment (binds_text h.base.binds ++ events_text h.base h.events) ∙ (begun_binds h.base.binds (events_text h.base h.events) ∙ begun_events h.base h.events))
 
 pub no_line_is_lost : NoLineIsLost
-no_line_is_lost h = (count h, ended h)
+no_line_is_lost h = (line_count h, all_ended h)

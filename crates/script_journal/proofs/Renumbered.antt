@@ -1,64 +1,90 @@
--- The script of a history is that of the same from a fresh realm on.
-use Rattle.std.proofs.Common.{◌≡◌, ℕ, zero, suc, List, [], ◌∷◌, ◌++◌, map, codes, refl, ap, sym, ◌∙◌}
-use Rattle.std.proofs.lemmas.List.{append-nil}
-use Rattle.std.proofs.lemmas.List.Concat.{flat_map-append}
-use Rattle.std.specs.Fmt.{decimal, digits}
+-- The script of a history is that of the same, if nothing was numbered before, and brings a fresh realm there.
+use Rattle.std.proofs.Common.{◌≡◌, ℕ, zero, suc, ◌-◌, ◌<◌, ◌≤◌, ◌^◌, Result, Ok, Err, IfOk, List, [], ◌∷◌, ◌++◌, length, map, refl, ap, ap₂, sym, ◌∙◌, subst, arith}
 use native.Mathlib.Numerals.{unary_clauses}
-use Rattle.scope_rules.specs.declared.types.events.Binding.{Binding}
+use Rattle.scope_rules.specs.declared.types.capacity.Limits.{Limits}
 use Rattle.scope_rules.specs.declared.types.events.Event.{Event}
 use Rattle.scope_rules.specs.declared.types.events.Event.TheVariants as event
-use Rattle.scope_rules.specs.Origin.{Origin, the_start}
-use Rattle.script_journal.specs.Script.{binds_text, event_line, events_text, moment_text, pair_text, script_text}
-use Rattle.script_journal.specs.Anew.{JournalBringsAnew, JournalCountsAnew, anew, beginning, renumbered, tick_to}
-use Rattle.script_journal.proofs.Running.{journal_is_a_script}
+use Rattle.scope_rules.specs.History.{History}
+use Rattle.scope_rules.specs.Load.{load}
+use Rattle.scope_rules.specs.Origin.{Origin}
+use Rattle.scope_rules.specs.Replies.{Realm}
+use Rattle.scope_checks.specs.Ruled.{IsRuled}
+use Rattle.scope_log.specs.Dues.{without_dues}
+use Rattle.script_words.specs.Spelling.{HasWords}
+use Rattle.script_journal.specs.Script.{binds_text, event_line, events_text, moment_text, script_text}
+use Rattle.script_journal.specs.Anew.{JournalBringsAnew, JournalCountsAnew, anew, renumbered}
+use Rattle.script_journal.specs.Journals.{AllFit, BaseFits, Fits, RunsTo}
+use Rattle.script_journal.proofs.Beginning.{begun}
+use Rattle.script_journal.proofs.RaisedLegal.{numbers_decide_nothing}
+use Rattle.script_journal.proofs.Running.{runs}
 
--- an event's line is that of the event counted anew, from the beginning on
-line_anew : (base : Origin) (e : Event) → event_line the_start (renumbered base.scopes base.tasks e) ≡ event_line base e
+-- an event's line is that of the event counted anew
+line_anew : (h : History) (e : Event) → event_line (anew h).base (renumbered h.base.scopes h.base.tasks e) ≡ event_line h.base e
 unfolding event_line
-line_anew base (event.Open actor policy options) = simp unary_clauses refl
-line_anew base (event.Fork actor scope label) = simp unary_clauses refl
-line_anew base (event.Reject task) = simp unary_clauses refl
-line_anew base (event.Start task) = simp unary_clauses refl
-line_anew base (event.Finish task end) = simp unary_clauses refl
-line_anew base (event.Cancel scope) = simp unary_clauses refl
-line_anew base (event.Move scope deadline) = simp unary_clauses refl
-line_anew base (event.Tick now) = refl
-line_anew base (event.Bind actor pair) = simp unary_clauses refl
-line_anew base (event.Unbind actor) = simp unary_clauses refl
-line_anew base (event.Join actor scope) = simp unary_clauses refl
-line_anew base (event.BeginClose actor scope) = simp unary_clauses refl
-line_anew base (event.EndClose actor scope) = simp unary_clauses refl
+line_anew h (event.Open actor policy options) = simp unary_clauses refl
+line_anew h (event.Fork actor scope label) = simp unary_clauses refl
+line_anew h (event.Reject task) = simp unary_clauses refl
+line_anew h (event.Start task) = simp unary_clauses refl
+line_anew h (event.Finish task end) = simp unary_clauses refl
+line_anew h (event.Cancel scope) = simp unary_clauses refl
+line_anew h (event.Move scope deadline) = simp unary_clauses refl
+line_anew h (event.Tick now) = refl
+line_anew h (event.Bind actor pair) = simp unary_clauses refl
+line_anew h (event.Unbind actor) = simp unary_clauses refl
+line_anew h (event.Join actor scope) = simp unary_clauses refl
+line_anew h (event.BeginClose actor scope) = simp unary_clauses refl
+line_anew h (event.EndClose actor scope) = simp unary_clauses refl
 
-lines_anew : (base : Origin) (es : List Event) → events_text the_start (map (renumbered base.scopes base.tasks) es) ≡ events_text base es
+lines_anew : (h : History) (es : List Event) → events_text (anew h).base (map (renumbered h.base.scopes h.base.tasks) es) ≡ events_text h.base es
 unfolding events_text
-lines_anew base [] = refl
-lines_anew base (e ∷ es) = rw (line_anew base e) (ap (λ xs. (event_line base e ++ 10 ∷ []) ++ xs) (lines_anew base es))
-
-tick_line : (n : ℕ) → events_text the_start (tick_to n) ≡ moment_text n
-unfolding events_text event_line
-tick_line zero = refl
-tick_line (suc n) = append-nil (codes "tick " ++ decimal (suc n) ++ 10 ∷ [])
-
-bind_lines : (pairs : List Binding) → events_text the_start (map (λ pair. event.Bind 0 pair) pairs) ≡ binds_text pairs
-unfolding events_text binds_text event_line digits
-bind_lines [] = refl
-bind_lines (pair ∷ pairs) = ap (λ xs. (codes "bind 0 " ++ pair_text pair ++ 10 ∷ []) ++ xs) (bind_lines pairs)
-
-both_lines : (es fs : List Event) → events_text the_start (es ++ fs) ≡ events_text the_start es ++ events_text the_start fs
-unfolding events_text
-both_lines es fs = flat_map-append (λ e. event_line the_start e ++ 10 ∷ []) es fs
-
-no_binds : binds_text [] ≡ []
-unfolding binds_text
-no_binds = refl
+lines_anew h [] = refl
+lines_anew h (e ∷ es) = rw (line_anew h e) (ap (λ xs. (event_line h.base e ++ 10 ∷ []) ++ xs) (lines_anew h es))
 
 pub counts_anew : JournalCountsAnew
-counts_anew h =
-    let first = both_lines (tick_to h.base.moment) (map (λ pair. event.Bind 0 pair) h.base.binds) in
-    let all = both_lines (beginning h.base) (map (renumbered h.base.scopes h.base.tasks) h.events) in
-    let there : script_text (anew h) ≡ events_text the_start (anew h).events = rw no_binds refl in
-    sym (there ∙ (all ∙ (ap (λ xs. xs ++ events_text the_start (map (renumbered h.base.scopes h.base.tasks) h.events)) first
-    ∙ rw (tick_line h.base.moment, bind_lines h.base.binds, lines_anew h.base h.events) refl)))
+counts_anew h = ap (λ lines. moment_text h.base.moment ++ binds_text h.base.binds ++ lines) (sym (lines_anew h h.events))
+
+-- the numbers fit their types still
+less : (n m : ℕ) → n < 2 ^ 32 → n - m < 2 ^ 32
+less n m small = omega arith
+
+fits_anew : (scopes tasks : ℕ) (e : Event) → Fits e → Fits (renumbered scopes tasks e)
+unfolding HasWords
+fits_anew scopes tasks (event.Open actor policy options) is = (less actor tasks is.0, is.1, is.2)
+fits_anew scopes tasks (event.Fork actor scope label) is = (less actor tasks is.0, less scope scopes is.1, is.2)
+fits_anew scopes tasks (event.Reject task) is = less task tasks is
+fits_anew scopes tasks (event.Start task) is = less task tasks is
+fits_anew scopes tasks (event.Finish task end) is = (less task tasks is.0, is.1)
+fits_anew scopes tasks (event.Cancel scope) is = less scope scopes is
+fits_anew scopes tasks (event.Move scope deadline) is = (less scope scopes is.0, is.1)
+fits_anew scopes tasks (event.Tick now) is = is
+fits_anew scopes tasks (event.Bind actor pair) is = (less actor tasks is.0, is.1)
+fits_anew scopes tasks (event.Unbind actor) is = less actor tasks is
+fits_anew scopes tasks (event.Join actor scope) is = (less actor tasks is.0, less scope scopes is.1)
+fits_anew scopes tasks (event.BeginClose actor scope) is = (less actor tasks is.0, less scope scopes is.1)
+fits_anew scopes tasks (event.EndClose actor scope) is = (less actor tasks is.0, less scope scopes is.1)
+
+all_fit_anew : (scopes tasks : ℕ) (es : List Event) → AllFit es → AllFit (map (renumbered scopes tasks) es)
+all_fit_anew scopes tasks [] fit i d at = absurd cc
+all_fit_anew scopes tasks (e ∷ es) fit zero d at = let same : renumbered scopes tasks e ≡ d = cc in subst Fits same (fits_anew scopes tasks e (fit 0 e refl))
+all_fit_anew scopes tasks (e ∷ es) fit (suc i) d at = all_fit_anew scopes tasks es (λ j c there. fit (suc j) c there) i d at
 
 pub brings_anew : JournalBringsAnew
-brings_anew L h legal fit = rw (counts_anew h) (journal_is_a_script L (anew h) refl legal fit)
+brings_anew L h legal base fit =
+    rw (counts_anew h)
+    (runs h.base.moment h.base.binds L (anew h).events (begun L h.base base) (numbers_decide_nothing L h legal) (all_fit_anew h.base.scopes h.base.tasks h.events fit))
+
+pairs_within : (realm : Realm) → load realm.history ≤ realm.limits.load → length realm.history.base.binds ≤ realm.limits.load
+unfolding load
+pairs_within realm loaded = omega (arith, loaded)
+
+-- so does the text that was made of a realm's journal, if one was made
+pub text_brings : {T E : Type 0} (bytes : T → List ℕ) (realm : Realm) (limits : Limits) (first base : Origin) (es : List Event) (made : Result T E) → IsRuled realm limits
+    → first ≡ realm.history.base → (length first.binds ≤ limits.load → BaseFits limits first) → base ≡ realm.history.base → es ≡ realm.history.events → AllFit es
+    → IfOk made (λ text. bytes text ≡ script_text (record { base = base; events = es }))
+    → IfOk made (λ text. RunsTo realm.limits (bytes text) (without_dues (anew realm.history)))
+text_brings bytes realm limits first base es (Err error) ruled of_first fits of_base of_events fit made = tt
+text_brings bytes realm limits first base es (Ok text) ruled of_first fits of_base of_events fit made =
+    let whole : bytes text ≡ script_text realm.history = made ∙ ap₂ (λ (b : Origin) (xs : List Event). script_text (record { base = b; events = xs })) of_base of_events in
+    let within : length first.binds ≤ limits.load = rw (of_first, ruled.limits) (pairs_within realm ruled.within.loaded) in
+    let base_fits : BaseFits realm.limits realm.history.base = subst (λ (L : Limits). BaseFits L realm.history.base) ruled.limits (subst (BaseFits limits) of_first (fits within)) in
+    subst (λ t. RunsTo realm.limits t (without_dues (anew realm.history))) (sym whole) (brings_anew realm.limits realm.history ruled.legal base_fits (subst AllFit of_events fit))

@@ -1,9 +1,12 @@
 -- The run of the script of a legal history.
-use Rattle.std.proofs.Common.{◌≡◌, ℕ, Some, Result, Ok, Err, IfOk, List, [], ◌∷◌, ◌++◌, length, map, take, slice_get, refl, sym, ap, ap₂, ◌∙◌, subst, append_assoc, append-nil}
+use Rattle.std.proofs.Common.{◌≡◌, ℕ, ◌+◌, false, Some, Result, Ok, Err, IfOk, List, [], ◌∷◌, ◌++◌, length, map, take, slice_get, refl, sym, ap, ap₂, ◌∙◌, subst, append_assoc, append-nil}
+use mathlib.Core.Path.{fun_ext}
 use Rattle.std.proofs.Math.Seq.{take-append_seam}
 use Rattle.std.proofs.lemmas.List.{length-map}
 use Rattle.scope_rules.specs.declared.types.capacity.Limits.{Limits}
+use Rattle.scope_rules.specs.declared.types.events.Binding.{Binding}
 use Rattle.scope_rules.specs.declared.types.events.Event.{Event}
+use Rattle.scope_rules.specs.declared.types.events.Event.TheVariants as event
 use Rattle.scope_rules.specs.History.{History}
 use Rattle.scope_rules.specs.Legal.{Legal, Accepts}
 use Rattle.scope_rules.specs.Origin.{Origin, the_start}
@@ -14,28 +17,51 @@ use Rattle.scope_log.proofs.Checks.{accepts_without}
 use Rattle.script_words.specs.declared.commands.Command.TheVariants.{Do}
 use Rattle.script_words.specs.declared.commands.Line.TheVariants.{Command}
 use Rattle.script_words.specs.Lines.{line_said}
-use Rattle.script_journal.specs.Script.{event_line, binds_text, events_text, script_text}
-use Rattle.scope_script.specs.Cutting.{ended_lines, begun_line}
+use Rattle.script_journal.specs.Script.{event_line, script_text}
+use Rattle.scope_script.specs.Cutting.{ended_lines}
+use Rattle.scope_script.specs.Replying.{reply_to, realm_after}
 use Rattle.scope_script.specs.Sessions.{realm_after_line, realm_after_lines, realm_of_script}
-use Rattle.scope_script.specs.Tallies.{no_refusals, tally_after_line, tally_after_lines, tally_of_script, with_cut}
-use Rattle.script_journal.specs.Journals.{AllFit, RunsTo, JournalIsAScript}
+use Rattle.scope_script.specs.declared.session.tally.Tally.{Tally}
+use Rattle.scope_script.specs.Tallies.{is_refused, no_refusals, tally_after_line, tally_after_lines, tally_of_script, with_cut}
+use Rattle.script_journal.specs.Journals.{AllFit, RunsTo, JournalIsAScript, beginning_lines}
 use Rattle.script_journal.proofs.Words.{line_says_event}
-use Rattle.script_journal.proofs.PlayedLines.{ended_events, begun_events}
+use Rattle.script_journal.proofs.PlayedLines.{moment_said, binds_said, all_lines, line_count, all_ended}
+use Rattle.script_journal.proofs.Bases.{from, unnumbered}
 use Rattle.script_journal.proofs.Accepted.{ruled, accepted_adds, accepted_unrefused}
 
--- a history that began fresh
-abbrev fresh : List Event → History
-fresh es = record { base = the_start; events = es }
+-- ---- lines in turn
 
-script_of_fresh : (es : List Event) → script_text (fresh es) ≡ events_text the_start es
-unfolding binds_text
-script_of_fresh es = refl
+-- the lines bring the one realm to the other, and none is refused
+pub record Plays (old new : Realm) (lines : List (List ℕ)) : Type 0 where
+  pub left : realm_after_lines old lines ≡ new
+  pub unrefused : tally_after_lines no_refusals old lines ≡ no_refusals
 
-lines_of_fresh : (es : List Event) → ended_lines [] (script_text (fresh es)) ≡ map (event_line the_start) es
-lines_of_fresh es = ap (ended_lines []) (script_of_fresh es) ∙ ended_events the_start es
+pub none_played : (realm : Realm) → Plays realm realm []
+unfolding realm_after_lines tally_after_lines
+none_played realm = record { left = refl; unrefused = refl }
 
-rest_of_fresh : (es : List Event) → begun_line [] (script_text (fresh es)) ≡ []
-rest_of_fresh es = ap (begun_line []) (script_of_fresh es) ∙ begun_events the_start es
+left_in_turn : (realm : Realm) (first others : List (List ℕ)) → realm_after_lines realm (first ++ others) ≡ realm_after_lines (realm_after_lines realm first) others
+unfolding realm_after_lines
+left_in_turn realm [] others = refl
+left_in_turn realm (line ∷ first) others = left_in_turn (realm_after_line realm (line_said line)) first others
+
+counted_in_turn : (tally : Tally) (realm : Realm) (first others : List (List ℕ))
+    → tally_after_lines tally realm (first ++ others) ≡ tally_after_lines (tally_after_lines tally realm first) (realm_after_lines realm first) others
+unfolding realm_after_lines tally_after_lines
+counted_in_turn tally realm [] others = refl
+counted_in_turn tally realm (line ∷ first) others = counted_in_turn (tally_after_line tally realm (line_said line)) (realm_after_line realm (line_said line)) first others
+
+pub both_played : (a b c : Realm) (first others : List (List ℕ)) → Plays a b first → Plays b c others → Plays a c (first ++ others)
+both_played a b c first others one two = record {
+  left = left_in_turn a first others ∙ (ap (λ (realm : Realm). realm_after_lines realm others) one.left ∙ two.left);
+  unrefused = counted_in_turn no_refusals a first others ∙ (ap₂ (λ tally (realm : Realm). tally_after_lines tally realm others) one.unrefused one.left ∙ two.unrefused);
+}
+
+pub line_played : (old new : Realm) (line : List ℕ) (command : _) → line_said line ≡ Command command → realm_after old command ≡ new → is_refused (reply_to old command) ≡ false → Plays old new (line ∷ [])
+unfolding realm_after_line realm_after_lines tally_after_line tally_after_lines
+line_played old new line command says leaves unrefused = record { left = rw says leaves; unrefused = rw (says, unrefused) refl }
+
+-- ---- events in turn
 
 -- the element behind the first ones
 get_behind : {A : Type 0} (xs : List A) (x : A) (ys : List A) → slice_get (xs ++ x ∷ ys) (length xs) ≡ Some x
@@ -45,73 +71,87 @@ get_behind (y ∷ xs) x ys = get_behind xs x ys
 put_behind : (done : List Event) (e : Event) (es all : List Event) → done ++ e ∷ es ≡ all → (done ++ e ∷ []) ++ es ≡ all
 put_behind done e es all whole = append_assoc done (e ∷ []) es ∙ whole
 
-module _ (L : Limits) (all : List Event) (legal : Legal L (fresh all)) (fit : AllFit all) where
+module _ (L : Limits) (base : Origin) (all : List Event) (legal : Legal L (from base all)) (fit : AllFit all) where
   at_seam : (done : List Event) (e : Event) (es : List Event) → done ++ e ∷ es ≡ all → slice_get all (length done) ≡ Some e
   at_seam done e es whole = ap (λ xs. slice_get xs (length done)) (sym whole) ∙ get_behind done e es
 
   -- each event is accepted on those before it
-  accepted : (done : List Event) (e : Event) (es : List Event) → done ++ e ∷ es ≡ all → Accepts L (fresh done) e
+  accepted : (done : List Event) (e : Event) (es : List Event) → done ++ e ∷ es ≡ all → Accepts L (from base done) e
   unfolding Legal
   accepted done e es whole =
       let seam : take (length done) all ≡ done = ap (take (length done)) (sym whole) ∙ take-append_seam done (e ∷ es) in
-      subst (λ (xs : List Event). Accepts L (fresh xs) e) seam (legal (length done) e (at_seam done e es whole))
+      subst (λ (xs : List Event). Accepts L (from base xs) e) seam (legal (length done) e (at_seam done e es whole))
 
   says : (done : List Event) (e : Event) (es : List Event) → done ++ e ∷ es ≡ all → line_said (event_line the_start e) ≡ Command (Do (without_due e))
   says done e es whole = line_says_event e (fit (length done) e (at_seam done e es whole))
 
   -- what the line of the next event leaves
   left_by : (done : List Event) (e : Event) (es : List Event) → done ++ e ∷ es ≡ all
-      → realm_after_line (ruled L (without_dues (fresh done))) (line_said (event_line the_start e)) ≡ ruled L (without_dues (fresh (done ++ e ∷ [])))
+      → realm_after_line (ruled L (without_dues (from base done))) (line_said (event_line the_start e)) ≡ ruled L (without_dues (from base (done ++ e ∷ [])))
   unfolding realm_after_line
   left_by done e es whole =
       rw (says done e es whole)
-      (accepted_adds L (without_dues (fresh done)) (without_due e) (accepts_without L (fresh done) e (accepted done e es whole))
-      ∙ ap (ruled L) (without_followed (fresh done) e))
+      (accepted_adds L (without_dues (from base done)) (without_due e) (accepts_without L (from base done) e (accepted done e es whole))
+      ∙ ap (ruled L) (without_followed (from base done) e))
 
-  left_after : (done es : List Event) → done ++ es ≡ all → realm_after_lines (ruled L (without_dues (fresh done))) (map (event_line the_start) es) ≡ ruled L (without_dues (fresh all))
+  left_after : (done es : List Event) → done ++ es ≡ all → realm_after_lines (ruled L (without_dues (from base done))) (map (event_line the_start) es) ≡ ruled L (without_dues (from base all))
   unfolding realm_after_lines
-  left_after done [] whole = ap (λ (xs : List Event). ruled L (without_dues (fresh xs))) (sym (append-nil done) ∙ whole)
+  left_after done [] whole = ap (λ (xs : List Event). ruled L (without_dues (from base xs))) (sym (append-nil done) ∙ whole)
   left_after done (e ∷ es) whole =
       ap (λ (realm : Realm). realm_after_lines realm (map (event_line the_start) es)) (left_by done e es whole)
       ∙ left_after (done ++ e ∷ []) es (put_behind done e es all whole)
 
   -- no line is refused
   counted_by : (done : List Event) (e : Event) (es : List Event) → done ++ e ∷ es ≡ all
-      → tally_after_line no_refusals (ruled L (without_dues (fresh done))) (line_said (event_line the_start e)) ≡ no_refusals
+      → tally_after_line no_refusals (ruled L (without_dues (from base done))) (line_said (event_line the_start e)) ≡ no_refusals
   unfolding tally_after_line
   counted_by done e es whole =
-      rw (says done e es whole, accepted_unrefused L (without_dues (fresh done)) (without_due e) (accepts_without L (fresh done) e (accepted done e es whole))) refl
+      rw (says done e es whole, accepted_unrefused L (without_dues (from base done)) (without_due e) (accepts_without L (from base done) e (accepted done e es whole))) refl
 
-  counted_after : (done es : List Event) → done ++ es ≡ all → tally_after_lines no_refusals (ruled L (without_dues (fresh done))) (map (event_line the_start) es) ≡ no_refusals
+  counted_after : (done es : List Event) → done ++ es ≡ all → tally_after_lines no_refusals (ruled L (without_dues (from base done))) (map (event_line the_start) es) ≡ no_refusals
   unfolding tally_after_lines
   counted_after done [] whole = refl
   counted_after done (e ∷ es) whole =
       ap₂ (λ tally (realm : Realm). tally_after_lines tally realm (map (event_line the_start) es)) (counted_by done e es whole) (left_by done e es whole)
       ∙ counted_after (done ++ e ∷ []) es (put_behind done e es all whole)
 
-module _ (L : Limits) (es : List Event) (legal : Legal L (fresh es)) (fit : AllFit es) where
-  left : realm_of_script L (script_text (fresh es)) ≡ ruled L (without_dues (fresh es))
-  unfolding realm_of_script
-  left = ap (realm_after_lines (starting L the_start)) (lines_of_fresh es) ∙ left_after L es legal fit [] es refl
+  -- the lines of the events bring a realm that begins with the base to the history
+  pub events_played : Plays (starting L base) (ruled L (without_dues (from base all))) (map (event_line the_start) all)
+  events_played = record { left = left_after [] all refl; unrefused = counted_after [] all refl }
 
-  counted : tally_of_script L (script_text (fresh es)) ≡ no_refusals
-  unfolding tally_of_script
-  counted =
-      ap₂ (λ lines line. with_cut (tally_after_lines no_refusals (starting L the_start) lines) line) (lines_of_fresh es) (rest_of_fresh es)
-      ∙ counted_after L es legal fit [] es refl
+-- ---- the whole script
 
-  runs : RunsTo L (script_text (fresh es)) (without_dues (fresh es))
-  runs = record {
-    left = left;
-    unrefused = counted;
-    lines = ap length (lines_of_fresh es) ∙ (length-map es (event_line the_start) ∙ sym (length-map es without_due));
-    ended = rest_of_fresh es;
-  }
+module _ (moment : ℕ) (pairs : List Binding) where
+  same_line : (e : Event) → event_line (unnumbered moment pairs) e ≡ event_line the_start e
+  unfolding event_line
+  same_line (event.Tick now) = refl
+  same_line _ = refl
+
+  module _ (L : Limits) (es : List Event)
+      (begun : Plays (starting L the_start) (starting L (unnumbered moment pairs)) (moment_said moment ++ binds_said pairs))
+      (legal : Legal L (from (unnumbered moment pairs) es)) (fit : AllFit es) where
+    lines : ended_lines [] (script_text (from (unnumbered moment pairs) es)) ≡ (moment_said moment ++ binds_said pairs) ++ map (event_line the_start) es
+    lines =
+        all_lines (from (unnumbered moment pairs) es)
+        ∙ (ap (λ (line : Event → List ℕ). moment_said moment ++ (binds_said pairs ++ map line es)) (fun_ext same_line)
+        ∙ sym (append_assoc (moment_said moment) (binds_said pairs) (map (event_line the_start) es)))
+
+    played : Plays (starting L the_start) (ruled L (without_dues (from (unnumbered moment pairs) es))) ((moment_said moment ++ binds_said pairs) ++ map (event_line the_start) es)
+    played = both_played (starting L the_start) (starting L (unnumbered moment pairs)) (ruled L (without_dues (from (unnumbered moment pairs) es))) (moment_said moment ++ binds_said pairs) (map (event_line the_start) es) begun (events_played L (unnumbered moment pairs) es legal fit)
+
+    pub runs : RunsTo L (script_text (from (unnumbered moment pairs) es)) (without_dues (from (unnumbered moment pairs) es))
+    unfolding realm_of_script tally_of_script
+    runs = record {
+      left = ap (realm_after_lines (starting L the_start)) lines ∙ played.left;
+      unrefused = ap₂ (λ ls line. with_cut (tally_after_lines no_refusals (starting L the_start) ls) line) lines (all_ended (from (unnumbered moment pairs) es)) ∙ played.unrefused;
+      lines = line_count (from (unnumbered moment pairs) es) ∙ ap (λ n. beginning_lines (unnumbered moment pairs) + n) (sym (length-map es without_due));
+      ended = all_ended (from (unnumbered moment pairs) es);
+    }
 
 pub journal_is_a_script : JournalIsAScript
 journal_is_a_script L h is legal fit =
-    let same : fresh h.events ≡ h = ap (λ (b : Origin). record { base = b; events = h.events }) (sym is) in
-    subst (λ (g : History). RunsTo L (script_text g) (without_dues g)) same (runs L h.events (subst (Legal L) (sym same) legal) fit)
+    let same : from the_start h.events ≡ h = ap (λ (b : Origin). from b h.events) (sym is) in
+    subst (λ (g : History). RunsTo L (script_text g) (without_dues g)) same (runs 0 [] L h.events (none_played (starting L the_start)) (subst (Legal L) (sym same) legal) fit)
 
 -- the text that was made of a realm's journal, if one was made
 pub text_runs : {T E : Type 0} (bytes : T → List ℕ) (realm : Realm) (base : Origin) (es : List Event) (made : Result T E) → Legal realm.limits realm.history → base ≡ realm.history.base → es ≡ realm.history.events → AllFit es

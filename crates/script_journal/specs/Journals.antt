@@ -1,13 +1,14 @@
 -- What a journal leaves when it is run as a script.
-use Rattle.std.specs.Prelude.{◌≡◌, ℕ, zero, suc, ◌+◌, Some, List, [], length, slice_get}
+use Rattle.std.specs.Prelude.{◌≡◌, ℕ, zero, suc, ◌+◌, ◌≤◌, ◌<◌, ◌^◌, Some, List, [], ◌∷◌, length, slice_get}
 use Rattle.scope_rules.specs.declared.types.capacity.Limits.{Limits}
+use Rattle.scope_rules.specs.declared.types.events.Binding.{Binding}
 use Rattle.scope_rules.specs.declared.types.events.Event.{Event}
 use Rattle.scope_rules.specs.History.{History}
 use Rattle.scope_rules.specs.Legal.{Legal}
-use Rattle.scope_rules.specs.Origin.{the_start}
+use Rattle.scope_rules.specs.Origin.{Origin, the_start}
 use Rattle.scope_log.specs.Dues.{without_due, without_dues}
 use Rattle.script_words.specs.declared.commands.Command.TheVariants.{Do}
-use Rattle.script_words.specs.Spelling.{HasWords}
+use Rattle.script_words.specs.Spelling.{HasWords, IsValue}
 use Rattle.script_journal.specs.Script.{script_text}
 use Rattle.scope_script.specs.Cutting.{ended_lines, begun_line}
 use Rattle.scope_script.specs.Sessions.{realm_of_script}
@@ -21,12 +22,32 @@ Fits e = HasWords (Do (without_due e))
 abbrev pub AllFit : List Event → Type 0
 AllFit es = (i : ℕ) (e : Event) → slice_get es i ≡ Some e → Fits e
 
+-- a realm of the limits may begin with the base, and its numbers fit their types
+pub record BaseFits (L : Limits) (base : Origin) : Type 0 where
+  pub some_load : 1 ≤ L.load
+  pub loaded : length base.binds ≤ L.load
+  pub moment : base.moment < 2 ^ 64
+  pub values : (i : ℕ) (pair : Binding) → slice_get base.binds i ≡ Some pair → IsValue pair.value
+
+-- how many lines a script begins with, to come to the moment that the history began with: a tick and a retirement
+abbrev pub moment_lines : ℕ → ℕ
+moment_lines zero = 0
+moment_lines (suc n) = 2
+
+-- and to main's bindings: a line for each, and a retirement
+abbrev pub bind_lines : List Binding → ℕ
+bind_lines [] = 0
+bind_lines (pair ∷ pairs) = length (pair ∷ pairs) + 1
+
+abbrev pub beginning_lines : Origin → ℕ
+beginning_lines base = moment_lines base.moment + bind_lines base.binds
+
 -- the text is a script that brings a fresh realm of these limits to the history: no line of it is refused, each line is
--- ended, and it has a line for each event
+-- ended, and it has a line for each event, behind those that come to the base
 pub record RunsTo (L : Limits) (text : List ℕ) (h : History) : Type 0 where
   pub left : realm_of_script L text ≡ record { limits = L; history = h }
   pub unrefused : tally_of_script L text ≡ no_refusals
-  pub lines : length (ended_lines [] text) ≡ length h.events
+  pub lines : length (ended_lines [] text) ≡ beginning_lines h.base + length h.events
   pub ended : begun_line [] text ≡ []
 
 -- the script of a legal history that began fresh brings a fresh realm to that history again, with labels that expect
@@ -42,12 +63,6 @@ JournalStays = (h : History) → script_text (without_dues h) ≡ script_text h
 abbrev pub JournalTellsAll : Type 0
 JournalTellsAll = (L : Limits) (g h : History) → g.base ≡ the_start → Legal L g → AllFit g.events → h.base ≡ the_start → Legal L h → AllFit h.events → script_text g ≡ script_text h → without_dues g ≡ without_dues h
 
--- how many lines the script begins with, to come to the moment that the history began with
-abbrev pub moment_lines : ℕ → ℕ
-moment_lines zero = 0
-moment_lines (suc n) = 1
-
--- the script of any history has a line for its moment, if that is not 0, one for each pair that main began with, and
--- one for each event, and each is ended
+-- the script of any history has the lines that come to its base, and one for each event, and each is ended
 abbrev pub NoLineIsLost : Type 0
-NoLineIsLost = (h : History) → (length (ended_lines [] (script_text h)) ≡ moment_lines h.base.moment + length h.base.binds + length h.events) × (begun_line [] (script_text h) ≡ [])
+NoLineIsLost = (h : History) → (length (ended_lines [] (script_text h)) ≡ beginning_lines h.base + length h.events) × (begun_line [] (script_text h) ≡ [])

@@ -46,13 +46,25 @@ event_line base (event.Join actor scope) = in_scope (codes "join") base actor sc
 event_line base (event.BeginClose actor scope) = in_scope (codes "close") base actor scope
 event_line base (event.EndClose actor scope) = in_scope (codes "closed") base actor scope
 
--- what the history begins with: the moment, if it is not 0, and main's bindings, each ended by a line feed
+-- a retirement, ended by a line feed: it gives back the load of the lines before it
+abbrev pub retire_text : List ℕ
+retire_text = codes "retire 0" ++ 10 ∷ []
+
+-- what the history begins with: the moment, if it is not 0, and main's bindings, if there are any, each followed by a
+-- retirement; so they take no more load than the base did
 abbrev pub moment_text : ℕ → List ℕ
 moment_text zero = []
-moment_text (suc n) = codes "tick " ++ decimal (suc n) ++ 10 ∷ []
+moment_text (suc n) = codes "tick " ++ decimal (suc n) ++ 10 ∷ retire_text
+
+unfoldable pub pairs_text : List Binding → List ℕ
+pairs_text pairs = flat_map (λ pair. codes "bind 0 " ++ pair_text pair ++ 10 ∷ []) pairs
+
+abbrev pub retire_behind : List Binding → List ℕ
+retire_behind [] = []
+retire_behind (pair ∷ pairs) = retire_text
 
 unfoldable pub binds_text : List Binding → List ℕ
-binds_text pairs = flat_map (λ pair. codes "bind 0 " ++ pair_text pair ++ 10 ∷ []) pairs
+binds_text pairs = pairs_text pairs ++ retire_behind pairs
 
 -- the commands of the events, each ended by a line feed
 unfoldable pub events_text : Origin → List Event → List ℕ

@@ -1,9 +1,11 @@
-//! The numbers of events fit their types, so that a script can say them.
+//! The numbers of events and of a base fit their types, so that a script can say them.
 
+ghost use Rattle.std.specs.Prelude.{◌≡◌, ◌≤◌, ℕ, Some, length, slice_get};
+ghost use Rattle.scope_rules.specs.declared.types.events.Binding.{Binding};
 ghost use Rattle.script_words.specs.Spelling.{IsEnd, IsMoment, IsPolicy, IsSmall, IsValue};
-ghost use Rattle.script_journal.specs.Journals.{AllFit, Fits};
+ghost use Rattle.script_journal.specs.Journals.{AllFit, BaseFits, Fits};
 
-use scope_rules::{End, Event, Policy, Rule, Value};
+use scope_rules::{Base, Binding, End, Event, Limits, Policy, Rule, Value};
 
 /// A number of 32 bits.
 fn small_fits(_number: u32)
@@ -95,4 +97,21 @@ pub(crate) fn events_fit(events: &[Event])
     for event in events {
         event_fits(*event);
     }
+}
+
+/// The pairs of a list.
+fn pairs_fit(pairs: &[Binding])
+    ensures { (i : ℕ) (pair : Binding) → slice_get pairs.now i ≡ Some pair → IsValue pair.value }
+{
+    for pair in pairs {
+        value_fits(pair.value);
+    }
+}
+
+/// A base, if its pairs are within the load.
+pub(crate) fn base_fits(_limits: Limits, base: &Base)
+    ensures { length base.now.binds ≤ _limits.load → BaseFits _limits base.now }
+{
+    let _moment = base.moment();
+    pairs_fit(base.binds());
 }

@@ -1,6 +1,6 @@
 //! The laws of journals. Each function does nothing: its contract is the law.
 
-ghost use Rattle.script_journal.specs.Anew.{JournalBringsAnew, JournalCountsAnew};
+ghost use Rattle.script_journal.specs.Anew.{JournalBringsAnew, JournalCountsAnew, NumbersDecideNothing};
 ghost use Rattle.script_journal.specs.Journals.{JournalIsAScript, JournalStays, JournalTellsAll, NoLineIsLost};
 
 /// A journal is a script. Of a legal history that began fresh, within limits, the script brings a fresh realm of
@@ -13,16 +13,17 @@ pub fn journal_is_a_script()
     ensures tells { JournalTellsAll }
 {}
 
-/// A journal counts from its base. The script of any history is that of the same history from a fresh realm on: the time
-/// and main's bindings first, then the events, with scopes and tasks counted behind those of the base. So it brings a
-/// fresh realm there, if that history is legal: a base's time costs no load, but the tick to it does.
+/// A journal counts from its base. The script of any history is that of the same history, if no scope or task was numbered
+/// before: such numbers decide nothing. So the script of a legal history, within limits, brings a fresh realm of these
+/// limits there: to the time and to main's bindings first, which a retirement makes as cheap as they were.
 pub fn journal_counts_from_its_base()
+    ensures legal { NumbersDecideNothing }
     ensures counts { JournalCountsAnew }
     ensures brings { JournalBringsAnew }
 {}
 
-/// The script of any history has a line for the moment that it began with, if that is not 0, one for each
-/// of main's bindings then, and one for each event; and each line is ended.
+/// The script of any history has the lines that come to the moment and to main's bindings with which it began, and one for
+/// each event; and each line is ended.
 pub fn no_line_is_lost()
     ensures { NoLineIsLost }
 {}

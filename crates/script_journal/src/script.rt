@@ -7,19 +7,22 @@ use scope_rules::{Base, Binding, Event};
 use std::alloc::{AllocError, Global};
 use std::fmt;
 
-/// Main's bindings, each as the command that binds it.
+/// Main's bindings, each as the command that binds it, and a retirement behind them.
 #[derive(Clone, Copy)]
 struct ShownBinds<'a>(&'a [Binding]);
 
 impl fmt::Display for ShownBinds<'_> {
     ghost output = { λ b. Some (binds_text b.0.now) };
 
-    #[tactic(auto, unfolding(crate::specs::Script::binds_text))]
+    #[tactic(auto, unfolding(crate::specs::Script::binds_text, crate::specs::Script::pairs_text))]
     fn fmt<W: fmt::Write>(&self, f: &mut fmt::Formatter<W>) -> fmt::Result {
         for pair in self.0 {
             write!(f, "bind 0 {}\n", ShownPair(*pair))?;
         }
-        Ok(())
+        match self.0 {
+            [] => Ok(()),
+            [_, ..] => write!(f, "retire 0\n"),
+        }
     }
 }
 
@@ -46,7 +49,7 @@ impl fmt::Display for ShownEvents<'_> {
     }
 }
 
-/// The moment that a history begins with, if it is not that of a fresh realm.
+/// The moment that a history begins with, if it is not that of a fresh realm, and a retirement behind it.
 #[derive(Clone, Copy)]
 struct ShownMoment(u64);
 
@@ -56,7 +59,7 @@ impl fmt::Display for ShownMoment {
     fn fmt<W: fmt::Write>(&self, f: &mut fmt::Formatter<W>) -> fmt::Result {
         match self.0 {
             0 => Ok(()),
-            moment => write!(f, "tick {moment}\n"),
+            moment => write!(f, "tick {moment}\nretire 0\n"),
         }
     }
 }

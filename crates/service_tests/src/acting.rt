@@ -1,12 +1,12 @@
 //! A service whose jobs and helpers act by one value: no clock, no runtime and no name of a realm in their signatures.
 
 use balkreyn::act::{
-    Acts, Backoff, Limiter, Serves, Task, TypedTask, Worker, all_of, bound, every, fork_value,
-    limited, map_at_most, next_done, race, retry, scope, serve, shielded,
+    Acts, Backoff, Came, Hooks, Limiter, Serves, Task, TypedTask, Worker, all_of, all_values,
+    bound, every, fork_value, limited, map_at_most, next_done, race, retry, scope, serve, shielded,
 };
 use balkreyn::{
-    End, Fault, JobError, Joiner, Name, Options, Outcome, Refusal, ScopeId, ServiceAnswer,
-    ServiceError, Slot, State, Typed, Value, Yields, named,
+    CauseKind, End, Fault, JobError, Joiner, Name, Options, Outcome, Refusal, ScopeId,
+    ServiceAnswer, ServiceError, Slot, State, Typed, Value, Yields, named,
 };
 use std::process::Abort;
 use std::test::Fail;
@@ -125,8 +125,8 @@ struct Seen {
     shields: (bool, bool, bool),
     slots: (Result<Stock, Refusal>, Result<Stock, Refusal>),
     errors: Failures,
-    raced: (Result<Stock, Refusal>, bool),
-    in_time: (Option<Stock>, Option<Stock>, Option<Stock>),
+    raced: (Result<Stock, NoStock>, bool),
+    in_time: (Option<u32>, Option<CauseKind>, Option<NoStock>),
     tried: (Result<u32, Refusal>, Result<u32, Refusal>),
     mapped: (bool, bool),
     mapping: u128,
@@ -136,7 +136,7 @@ struct Seen {
 }
 
 /// What a job gives that has ended.
-type Done = Option<Result<Stock, NoStock>>;
+type Done = Result<Stock, NoStock>;
 
 /// What the slot of a job that failed gives: its value; its error, once and again; and whether its task failed by the name
 /// that the error gives.
@@ -306,26 +306,38 @@ fn asks<X: Acts<Shop>>(cx: &mut X, shops: [(u32, u64); 3]) -> Result<Vec<AskStoc
 }
 
 /// The first of three that has some.
-fn raced<X: Acts<Shop>>(cx: &mut X, shops: [(u32, u64); 3]) -> Result<Stock, Refusal> {
+fn raced<X: Acts<Shop>>(cx: &mut X, shops: [(u32, u64); 3]) -> Result<Stock, NoStock> {
     let jobs = asks(cx, shops)?;
-    race(cx, named(b"stock"), Options::PLAIN, jobs)
+    race(cx, named(b"stock"), Options::PLAIN, jobs)?.into_result()
 }
 
-/// Whether a race that nobody wins says so.
+/// Whether a race that nobody wins gives the error of one.
 fn raced_none<X: Acts<Shop>>(cx: &mut X) -> bool {
-    raced(cx, [(0, 0), (0, 10), (0, 0)]) == Err(Refusal::Unavailable)
+    raced(cx, [(0, 0), (0, 10), (0, 0)]) == Err(NoStock::Empty)
 }
 
-/// What three say within 200 milliseconds.
+/// How many pieces the first of three has, why the second was cut off after 200 milliseconds, and why the third has none.
 fn had_in_time<X: Acts<Shop>>(
     cx: &mut X,
-) -> Result<(Option<Stock>, Option<Stock>, Option<Stock>), Refusal> {
+) -> Result<(Option<u32>, Option<CauseKind>, Option<NoStock>), Refusal> {
     let jobs = asks(cx, [(3, 0), (4, 60_000), (0, 0)])?;
     let options = cx.move_on_after(200);
-    let stocks = all_of(cx, named(b"stock"), options, jobs)?;
-    match stocks.as_slice() {
-        [first, second, third] => Ok((*first, *second, *third)),
+    let found = all_of(cx, named(b"stock"), options, jobs)?;
+    match found.as_slice() {
+        [first, Came::Cut(mark), Came::Failed(error)] => Ok((
+            pieces_of(first),
+            Some(mark.cause.kind),
+            Some(*error),
+        )),
         _ => Err(Refusal::Unavailable),
+    }
+}
+
+/// How many pieces there are.
+fn pieces_of(came: &Came<Stock, NoStock>) -> Option<u32> {
+    match came {
+        Came::Value(stock) => Some(stock.pieces),
+        Came::Failed(_) | Came::Cut(_) => None,
     }
 }
 
@@ -350,7 +362,8 @@ fn mapped<X: Acts<Shop>>(cx: &mut X) -> Result<bool, Refusal> {
     for pieces in 1..=32u32 {
         jobs.push(AskStock { pieces, after: 10 })?;
     }
-    let Ok(stocks) = map_at_most(cx, named(b"stock"), Options::PLAIN, 8, jobs)? else {
+    let found = map_at_most(cx, named(b"stock"), Options::PLAIN, 8, jobs)?;
+    let Came::Value(stocks) = all_values(cx.alloc(), found)? else {
         return Ok(false);
     };
     let in_order = stocks
@@ -360,27 +373,29 @@ fn mapped<X: Acts<Shop>>(cx: &mut X) -> Result<bool, Refusal> {
     Ok(stocks.len() == 32 && in_order)
 }
 
-/// Whether one that fails ends the others, of which one would take a minute, and its error is given.
+/// Whether one that fails ends the others, of which one would take a minute and one never began: each says what it came to.
 fn failed<X: Acts<Shop>>(cx: &mut X) -> Result<bool, Refusal> {
     let jobs = asks(cx, [(1, 60_000), (0, 0), (3, 60_000)])?;
-    match map_at_most(cx, named(b"stock"), Options::PLAIN, 2, jobs)? {
-        Ok(_stocks) => Ok(false),
-        Err(error) => Ok(error == NoStock::Empty),
+    let found = map_at_most(cx, named(b"stock"), Options::PLAIN, 2, jobs)?;
+    match found.as_slice() {
+        [first, Came::Failed(second), Came::Cut(mark)] => Ok(
+            !matches!(first, Came::Value(_))
+                && *second == NoStock::Empty
+                && mark.cause.kind == CauseKind::Joiner,
+        ),
+        _ => Ok(false),
     }
 }
 
 /// Whether a deadline ends the wait for the one permit, which is held; whether a body that failed gave it back; and what
 /// the next body answers.
 fn limits<X: Acts<Shop>>(cx: &mut X) -> Result<(Option<bool>, bool, Option<u32>), Refusal> {
-    let limiter = Limiter::new(cx.alloc(), 1);
+    let limiter = Limiter::new(cx.alloc(), 1)?;
     let held = limited(cx, &limiter, |cx| waited_for(cx, &limiter))?;
-    let failed: Result<Option<u32>, Refusal> = limited(
-        cx,
-        &limiter,
-        |_cx| Err(Refusal::Unavailable),
-    );
+    let failed = limited(cx, &limiter, |_cx| Err::<u32, NoStock>(NoStock::Empty))?;
     let next = limited(cx, &limiter, |_cx| Ok::<u32, Refusal>(7))?;
-    Ok((held, failed.is_err(), next))
+    let is_failed = matches!(failed, Came::Failed(NoStock::Empty));
+    Ok((held.value(), is_failed, next.value()))
 }
 
 /// Whether no permit comes within 50 milliseconds.
@@ -388,7 +403,7 @@ fn waited_for<X: Acts<Shop>>(cx: &mut X, limiter: &Limiter) -> Result<bool, Refu
     let options = cx.move_on_after(50);
     scope(cx, Joiner::AwaitAll, options, |cx, _scope| {
         let second = limited(cx, limiter, |_cx| Ok::<u32, Refusal>(1))?;
-        Ok(second.is_none())
+        Ok(matches!(second, Came::Cut(_)))
     })
 }
 
@@ -432,14 +447,17 @@ fn completed<X: Acts<Shop>>(cx: &mut X) -> Result<(Done, Done, Done, bool), Refu
 /// What the next one gives.
 fn done<X: Acts<Shop>>(cx: &mut X, slots: &mut Vec<Slot<AskStock>>) -> Result<Done, Refusal> {
     match next_done(cx, slots)? {
-        Some((_task, stock)) => Ok(stock),
-        None => Err(Refusal::Unavailable),
+        Some(Came::Value((_task, stock))) => Ok(Ok(stock)),
+        Some(Came::Failed((_task, error))) => Ok(Err(error)),
+        Some(Came::Cut(_)) | None => Err(Refusal::Unavailable),
     }
 }
 
 #[test]
 fn a_service_acts_by_one_value(rt: HostRuntime) -> Result<(), Fail> {
-    let seen = serve::<Shop, Shops, _>(&rt, rt.alloc(), 4, Shops(rt)).map_err(|_| "a refusal")?;
+    let seen = serve::<Shop, (), Shops, _>(&rt, rt.alloc(), 4, Hooks::none(), Shops(rt)).map_err(
+        |_| "a refusal",
+    )?;
     assert!(rt; seen.first == Some(2));
     assert!(rt; seen.timed_out && seen.waited >= 200 && seen.waited < 400);
     assert!(rt; seen.bindings == (Some(7), true, true));
@@ -447,19 +465,11 @@ fn a_service_acts_by_one_value(rt: HostRuntime) -> Result<(), Fail> {
     assert!(rt; seen.slots == (Err(Refusal::NotJoined), Ok(Stock { pieces: 3 })));
     assert!(rt; seen.raced == (Ok(Stock { pieces: 7 }), true));
     assert!(rt; seen.tried == (Ok(2), Err(Refusal::Unavailable)));
-    assert!(rt; seen.in_time == (Some(Stock { pieces: 3 }), None, None));
+    assert!(rt; seen.in_time == (Some(3), Some(CauseKind::Deadline), Some(NoStock::Empty)));
     assert!(rt; seen.mapped == (true, true) && seen.mapping >= 40);
     assert!(rt; seen.limits == (Some(true), true, Some(7)));
     let (one, two) = (Stock { pieces: 1 }, Stock { pieces: 2 });
-    assert!(rt;
-        seen.completed
-            == (
-                Some(Ok(two)),
-                Some(Err(NoStock::Empty)),
-                Some(Ok(one)),
-                true
-            )
-    );
+    assert!(rt; seen.completed == (Ok(two), Err(NoStock::Empty), Ok(one), true));
     assert!(rt; seen.errors.value == Some(Refusal::NotSuccess) && seen.errors.fault);
     assert!(rt; seen.errors.first == Ok(Err(NoStock::Empty)));
     assert!(rt; seen.errors.again == Err(Refusal::NotSuccess));

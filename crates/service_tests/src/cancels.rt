@@ -1,6 +1,6 @@
 //! Which cancels an observer hears of: each kind once, from whom it is to come.
 
-use balkreyn::act::{Acts, Happening, Hooks, Load, Observes, Serves, Task, scope, serve_with};
+use balkreyn::act::{Acts, Happening, Hooks, Load, Observes, Serves, Task, scope, serve};
 use balkreyn::{
     Cancelling, CauseKind, End, Fault, Joiner, Options, Outcome, PoolRuntime, Refusal,
     ServiceAnswer, ServiceError, Value, named,
@@ -11,6 +11,7 @@ use std::rt::Clock as SystemTime;
 use std::sync::atomic::{AtomicU64, Ordering};
 use std::sync::{Arc, Wait};
 use std::test::Fail;
+use std::thread;
 
 /// A job that lasts so many milliseconds, and fails if a cancel ends it.
 #[derive(Clone, Copy)]
@@ -87,6 +88,8 @@ enum Cut {
     ByDeadline,
     /// By its deadline, which a sleep in a scope within shows, and then the join tells.
     ByDeadlineWithin,
+    /// By its deadline, which a checkpoint alone shows.
+    ByDeadlineSeen,
 }
 
 impl ServiceAnswer for Cut {
@@ -104,6 +107,7 @@ impl Serves<Lasts> for Cut {
             Cut::ByJoiner => won(cx),
             Cut::ByDeadline => late(cx),
             Cut::ByDeadlineWithin => late_within(cx),
+            Cut::ByDeadlineSeen => late_seen(cx),
         };
         Ok(found?)
     }
@@ -116,16 +120,19 @@ fn called<X: Acts<Lasts>>(cx: &mut X) -> Result<bool, Refusal> {
         cx.sleep(50)?;
         cx.cancel(scope)?;
         let again = cx.cancel(scope)?;
-        Ok(again == Cancelling::Already && cx.checkpoint().is_some())
+        let shown = cx.checkpoint().is_some();
+        cx.join(scope)?;
+        Ok(again == Cancelling::Already && shown)
     })
 }
 
-/// Closes a scope in which a job runs.
+/// Closes a scope in which a job runs that nobody joined.
 fn closed<X: Acts<Lasts>>(cx: &mut X) -> Result<bool, Refusal> {
-    scope(cx, Joiner::AwaitAll, Options::PLAIN, |cx, scope| {
+    let found = scope(cx, Joiner::AwaitAll, Options::PLAIN, |cx, scope| {
         cx.fork(scope, named(b"lasts"), Lasts(60_000))?;
-        Ok(cx.sleep(200)?.is_none())
-    })
+        cx.sleep(200)
+    });
+    Ok(matches!(found, Err(Refusal::NotJoined)))
 }
 
 /// Joins a scope whose first job succeeds, and the second lasts.
@@ -166,14 +173,30 @@ fn late_within<X: Acts<Lasts>>(cx: &mut X) -> Result<bool, Refusal> {
     })
 }
 
+/// Looks for the mark of a scope that has a deadline, and is not joined; a job passes that.
+fn late_seen<X: Acts<Lasts>>(cx: &mut X) -> Result<bool, Refusal> {
+    let options = cx.fail_after(20);
+    scope(cx, Joiner::AwaitAll, options, |cx, scope| {
+        cx.fork(scope, named(b"lasts"), Lasts(60_000))?;
+        for _ in 0..u32::MAX {
+            if cx.checkpoint().is_some() {
+                cx.join(scope)?;
+                return Ok(true);
+            }
+            thread::yield_now();
+        }
+        Ok(false)
+    })
+}
+
 /// An observer, and hooks with it.
 fn hooks_of(alloc: Global) -> Result<(Arc<Heard, Global>, Hooks<Heard>), Refusal> {
     let observer = Arc::new(alloc, Heard::none())?;
     let hooks = Hooks {
         stop: None,
         watch: None,
-        load: Arc::new(alloc, Load::at_most(8))?,
-        observer: Arc::try_clone(&observer)?,
+        load: Some(Arc::new(alloc, Load::at_most(8))?),
+        observer: Some(Arc::try_clone(&observer)?),
     };
     Ok((observer, hooks))
 }
@@ -185,7 +208,7 @@ fn counted<R: PoolRuntime + SystemTime>(
     cut: Cut,
 ) -> Result<Option<(u64, u64, u64, u64)>, ServiceError> {
     let (observer, hooks) = hooks_of(alloc)?;
-    let well = serve_with::<Lasts, Heard, Cut, R>(rt, alloc, 2, hooks, cut)?;
+    let well = serve::<Lasts, Heard, Cut, R>(rt, alloc, 2, hooks, cut)?;
     Ok(if well { Some(observer.all()) } else { None })
 }
 
@@ -211,5 +234,6 @@ fn a_joiner_that_has_its_success_is_heard_of_once(rt: HostRuntime) -> Result<(),
 fn a_deadline_is_heard_of_once(rt: HostRuntime) -> Result<(), Fail> {
     assert!(rt; counted(&rt, rt.alloc(), Cut::ByDeadline) == Ok(Some((0, 0, 0, 1))));
     assert!(rt; counted(&rt, rt.alloc(), Cut::ByDeadlineWithin) == Ok(Some((0, 0, 0, 1))));
+    assert!(rt; counted(&rt, rt.alloc(), Cut::ByDeadlineSeen) == Ok(Some((0, 0, 0, 1))));
     Ok(())
 }

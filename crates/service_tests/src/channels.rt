@@ -1,18 +1,20 @@
-//! A channel between the jobs of a service: its order, its room, its close, and what ends its waits.
+//! What the jobs of a service share: a channel, with its order, its room, its close, and what ends its waits; and permits.
 
-use balkreyn::act::{Acts, Channel, Received, Sent, Serves, Task, receive, scope, send, serve};
-use balkreyn::{
-    End, Fault, Joiner, Options, Outcome, Refusal, ServiceAnswer, ServiceError, Value, named,
+use balkreyn::act::{
+    Acts, Hooks, Limiter, Permit, Rate, Received, Receiver, Sender, Sent, Serves, Task, channel,
+    each, receive, scope, send, serve,
 };
-use std::alloc::Global;
+use balkreyn::{
+    End, Fault, Joiner, Options, Outcome, Refusal, ScopeId, ServiceAnswer, ServiceError, Value,
+    named,
+};
 use std::process::Abort;
-use std::sync::Arc;
 use std::test::Fail;
 
-/// A job that sends the numbers below a hundred, and then closes the channel.
+/// A job that sends the numbers below a hundred, and closes the channel by its end.
 #[derive(Drop)]
 struct Counts {
-    into: Arc<Channel<u32>, Global>,
+    into: Sender<u32>,
 }
 
 impl Task for Counts {
@@ -23,21 +25,23 @@ impl Task for Counts {
                 _ => return Err(Fault(named(b"unsent"))),
             }
         }
-        self.into.close(cx);
         Ok(Value::Num(100))
     }
 }
 
-/// What the service sees: how many numbers came in order, and whether the channel was closed behind them; whether a deadline
-/// ended a receive, and a send, whose value came back; whether a closed channel gave a value back, and what was left.
+/// What the service sees: how many numbers came in order, and whether the channel was closed behind them, once by `receive` and
+/// once by `each`; whether a deadline ended a receive, and a send, whose value came back; what was left in a closed channel; and
+/// what came back from one whose receiver is gone.
 #[derive(Clone, Copy, PartialEq, Eq)]
 struct Seen {
     in_order: u32,
     closed: bool,
+    sum: u32,
+    closed_again: bool,
     no_value: bool,
     no_room: Option<u32>,
-    too_late: Option<u32>,
     left: Option<u32>,
+    too_late: Option<u32>,
 }
 
 /// The service.
@@ -53,37 +57,41 @@ impl ServiceAnswer for Counting {
 impl Serves<Counts> for Counting {
     fn serve<X: Acts<Counts>>(self, cx: &mut X) -> Result<Seen, ServiceError> {
         let (in_order, closed) = counted(cx)?;
-        let one = Channel::bounded(cx.alloc(), 1).map_err(Refusal::from)?;
-        let no_value = matches!(waited_for(cx, &one)?, Received::Cancelled);
-        let first = send(cx, &one, 1)?;
-        let no_room = back(&waited_to_send(cx, &one, 2)?);
-        one.close(cx);
-        let too_late = back(&send(cx, &one, 3)?);
-        let left = match (first, receive(cx, &one)?) {
-            (Sent::Done, Received::Value(number)) => Some(number),
+        let (sum, closed_again) = summed(cx)?;
+        let (into, from) = channel(cx.alloc(), 1)?;
+        let no_value = matches!(waited_for(cx, &from)?, Received::Cancelled);
+        let first = send(cx, &into, 1)?;
+        let no_room = back(&waited_to_send(cx, &into, 2)?);
+        drop(into);
+        let left = match (first, receive(cx, &from)?, receive(cx, &from)?) {
+            (Sent::Done, Received::Value(number), Received::Closed) => Some(number),
             _ => None,
         };
+        let (into, from) = channel(cx.alloc(), 1)?;
+        drop(from);
+        let too_late = back(&send(cx, &into, 3)?);
         Ok(Seen {
             in_order,
             closed,
+            sum,
+            closed_again,
             no_value,
             no_room,
-            too_late,
             left,
+            too_late,
         })
     }
 }
 
 /// How many numbers come in order from a job, over a channel with room for three, and whether it is closed behind them.
 fn counted<X: Acts<Counts>>(cx: &mut X) -> Result<(u32, bool), Refusal> {
-    let channel = Arc::new(cx.alloc(), Channel::bounded(cx.alloc(), 3)?)?;
-    let into = Arc::try_clone(&channel)?;
+    let (into, from) = channel(cx.alloc(), 3)?;
     scope(cx, Joiner::All, Options::PLAIN, |cx, scope| {
         cx.fork(scope, named(b"counts"), Counts { into })?;
         let mut in_order = 0u32;
         let mut closed = false;
         for _ in 0..200 {
-            match receive(cx, &channel)? {
+            match receive(cx, &from)? {
                 Received::Value(number) if number == in_order => {
                     in_order = in_order.saturating_add(1);
                 }
@@ -101,24 +109,36 @@ fn counted<X: Acts<Counts>>(cx: &mut X) -> Result<(u32, bool), Refusal> {
     })
 }
 
+/// The sum of the numbers that come from a job, and whether the channel is closed behind them.
+fn summed<X: Acts<Counts>>(cx: &mut X) -> Result<(u32, bool), Refusal> {
+    let (into, from) = channel(cx.alloc(), 3)?;
+    scope(cx, Joiner::AwaitAll, Options::PLAIN, |cx, scope| {
+        cx.fork(scope, named(b"counts"), Counts { into })?;
+        let mut sum = 0u32;
+        let closed = each(cx, &from, |_cx, number| {
+            sum = sum.saturating_add(number);
+            Ok::<(), Refusal>(())
+        })?;
+        cx.join(scope)?;
+        Ok((sum, closed))
+    })
+}
+
 /// What comes within 50 milliseconds.
-fn waited_for<X: Acts<Counts>>(
-    cx: &mut X,
-    channel: &Channel<u32>,
-) -> Result<Received<u32>, Refusal> {
+fn waited_for<X: Acts<Counts>>(cx: &mut X, from: &Receiver<u32>) -> Result<Received<u32>, Refusal> {
     let options = cx.move_on_after(50);
     scope(
         cx,
         Joiner::AwaitAll,
         options,
-        |cx, _scope| receive(cx, channel),
+        |cx, _scope| receive(cx, from),
     )
 }
 
 /// What a send comes to within 50 milliseconds.
 fn waited_to_send<X: Acts<Counts>>(
     cx: &mut X,
-    channel: &Channel<u32>,
+    into: &Sender<u32>,
     number: u32,
 ) -> Result<Sent<u32>, Refusal> {
     let options = cx.move_on_after(50);
@@ -126,7 +146,7 @@ fn waited_to_send<X: Acts<Counts>>(
         cx,
         Joiner::AwaitAll,
         options,
-        |cx, _scope| send(cx, channel, number),
+        |cx, _scope| send(cx, into, number),
     )
 }
 
@@ -140,15 +160,120 @@ fn back(sent: &Sent<u32>) -> Option<u32> {
 
 #[test]
 fn a_channel_is_in_order_and_its_waits_end(rt: HostRuntime) -> Result<(), Fail> {
-    let seen = serve::<Counts, Counting, _>(&rt, rt.alloc(), 2, Counting).map_err(|_| "refused")?;
+    let seen = serve::<Counts, (), Counting, _>(
+        &rt,
+        rt.alloc(),
+        2,
+        Hooks::none(),
+        Counting,
+    ).map_err(|_| "refused")?;
     let wanted = Seen {
         in_order: 100,
         closed: true,
+        sum: 4_950,
+        closed_again: true,
         no_value: true,
         no_room: Some(2),
-        too_late: Some(3),
         left: Some(1),
+        too_late: Some(3),
     };
     assert!(rt; seen == wanted);
+    Ok(())
+}
+
+/// A job that carries a permit, and is done at once.
+#[derive(Drop)]
+struct Visit {
+    permit: Permit,
+}
+
+impl Task for Visit {
+    fn run<X: Acts<Visit>>(self, _cx: &mut X) -> End {
+        drop(self.permit);
+        Ok(Value::Num(1))
+    }
+}
+
+/// Forks so many jobs, each once there is a permit for it, and says how many those are.
+fn visit_all<X: Acts<Visit>>(
+    cx: &mut X,
+    limiter: &Limiter,
+    scope: ScopeId,
+    visits: u32,
+) -> Result<u32, Refusal> {
+    for number in 0..visits {
+        let Some(permit) = limiter.permit(cx)? else {
+            return Ok(number);
+        };
+        cx.fork(scope, named(b"visit"), Visit { permit })?;
+    }
+    Ok(visits)
+}
+
+/// Forks forty such jobs, at this rate, and says how many those are.
+fn begin_all<X: Acts<Visit>>(
+    cx: &mut X,
+    rate: &Rate,
+    limiter: &Limiter,
+    scope: ScopeId,
+) -> Result<u32, Refusal> {
+    let mut begun = 0u32;
+    for _ in 0..40 {
+        if !rate.pass(cx)? {
+            break;
+        }
+        begun = begun.saturating_add(visit_all(cx, limiter, scope, 1)?);
+    }
+    Ok(begun)
+}
+
+/// The service: how many jobs got a permit of two; whether one comes back from a job that is forked in a cancelled scope, and so
+/// never runs; and how many jobs began at a hundred a second, and whether that took long enough.
+#[derive(Clone, Copy)]
+struct Visiting;
+
+impl ServiceAnswer for Visiting {
+    type Answer = (u32, bool, u32, bool);
+
+    type Error = ServiceError;
+}
+
+impl Serves<Visit> for Visiting {
+    fn serve<X: Acts<Visit>>(self, cx: &mut X) -> Result<(u32, bool, u32, bool), ServiceError> {
+        let two = Limiter::new(cx.alloc(), 2)?;
+        let options = cx.move_on_after(20_000);
+        let visits = scope(cx, Joiner::AwaitAll, options, |cx, scope| {
+            let visits = visit_all(cx, &two, scope, 400)?;
+            cx.join(scope)?;
+            Ok::<u32, Refusal>(visits)
+        })?;
+        let one = Limiter::new(cx.alloc(), 1)?;
+        scope(cx, Joiner::AwaitAll, Options::PLAIN, |cx, scope| {
+            cx.cancel(scope)?;
+            visit_all(cx, &one, scope, 1)?;
+            cx.join(scope)
+        })?;
+        let options = cx.move_on_after(1_000);
+        let is_back = scope(cx, Joiner::AwaitAll, options, |cx, _scope| {
+            Ok::<bool, Refusal>(one.permit(cx)?.is_some())
+        })?;
+        let rate = Rate::new(cx.alloc(), 100)?;
+        let before = cx.now();
+        let begun = scope(cx, Joiner::AwaitAll, Options::PLAIN, |cx, scope| {
+            let begun = begin_all(cx, &rate, &two, scope)?;
+            cx.join(scope)?;
+            Ok::<u32, Refusal>(begun)
+        })?;
+        let is_slow = cx.now().saturating_sub(before) >= 370;
+        Ok((visits, is_back, begun, is_slow))
+    }
+}
+
+#[test]
+fn jobs_begin_by_permits_and_at_a_rate(rt: HostRuntime) -> Result<(), Fail> {
+    let seen = serve::<Visit, (), Visiting, _>(&rt, rt.alloc(), 4, Hooks::none(), Visiting).map_err(
+        |_| "refused",
+    )?;
+    assert!(rt; seen == (400, true, 40, true));
     Ok(())
 }

@@ -1,6 +1,6 @@
 //! Who waits for a permit gets it in the order of asking, beside one who asks again and again.
 
-use balkreyn::act::{Acts, Limiter, Serves, Task, limited, scope, serve};
+use balkreyn::act::{Acts, Came, Hooks, Limiter, Serves, Task, limited, scope, serve};
 use balkreyn::{End, Joiner, Options, Refusal, ServiceAnswer, ServiceError, Value, named};
 use std::alloc::Global;
 use std::process::Abort;
@@ -30,7 +30,7 @@ impl Task for Greedy {
             }
             let held = limited(cx, &self.shared.limiter, |cx| cx.sleep(1));
             self.shared.taken.fetch_add(1, Ordering::SeqCst);
-            if !matches!(held, Ok(Some(None))) {
+            if !matches!(held, Ok(Came::Value(None))) {
                 break;
             }
         }
@@ -51,7 +51,7 @@ impl ServiceAnswer for Asks {
 impl Serves<Greedy> for Asks {
     fn serve<X: Acts<Greedy>>(self, cx: &mut X) -> Result<bool, ServiceError> {
         let shared = Shared {
-            limiter: Limiter::new(cx.alloc(), 1),
+            limiter: Limiter::new(cx.alloc(), 1)?,
             taken: AtomicU64::new(0),
             is_over: AtomicBool::new(false),
         };
@@ -72,7 +72,8 @@ fn beside<X: Acts<Greedy>>(cx: &mut X, shared: &Shared, greedy: Greedy) -> Resul
             cx,
             &shared.limiter,
             |_cx| Ok::<u64, Refusal>(shared.taken.load(Ordering::SeqCst)),
-        )?;
+        )?
+        .value();
         shared.is_over.store(true, Ordering::SeqCst);
         cx.join(scope)?;
         Ok(count.is_some_and(|count| count <= before.saturating_add(2)))
@@ -82,7 +83,9 @@ fn beside<X: Acts<Greedy>>(cx: &mut X, shared: &Shared, greedy: Greedy) -> Resul
 #[test]
 fn who_waits_for_a_permit_gets_one(rt: HostRuntime) -> Result<(), Fail> {
     for _ in 0..10u32 {
-        let is_fair = serve::<Greedy, Asks, _>(&rt, rt.alloc(), 2, Asks).map_err(|_| "refused")?;
+        let is_fair = serve::<Greedy, (), Asks, _>(&rt, rt.alloc(), 2, Hooks::none(), Asks).map_err(
+            |_| "refused",
+        )?;
         assert!(rt; is_fair);
     }
     Ok(())

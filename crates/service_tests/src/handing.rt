@@ -1,7 +1,7 @@
 //! One value wakes one who waits, in the order of asking; and who is cancelled as it is woken passes that on.
 
-use super::waiters::{Desk, Waiter, Want, desk_of, fork_waiter};
-use balkreyn::act::{Acts, Serves, limited, receive, scope, send, serve};
+use super::waiters::{Desk, Halves, Waiter, Want, desk_of, fork_waiter};
+use balkreyn::act::{Acts, Hooks, Serves, limited, receive, scope, send, serve};
 use balkreyn::{Joiner, Refusal, ScopeId, ServiceAnswer, ServiceError, Value};
 use std::alloc::Global;
 use std::process::Abort;
@@ -40,7 +40,7 @@ impl Serves<Waiter> for Hands {
 
 /// How many of four who wait for a value get that of their place, and are the only ones that it wakes.
 fn in_order<X: Acts<Waiter>>(cx: &mut X) -> Result<u32, Refusal> {
-    let desk = desk_of(cx)?;
+    let (desk, halves) = desk_of(cx)?;
     let options = cx.move_on_after(5_000);
     scope(cx, Joiner::All, options, |cx, scope| {
         for _ in 0..4 {
@@ -48,7 +48,7 @@ fn in_order<X: Acts<Waiter>>(cx: &mut X) -> Result<u32, Refusal> {
         }
         let mut alone = true;
         for number in 0..4u32 {
-            send(cx, &desk.empty, number)?;
+            send(cx, &halves.into, number)?;
             cx.sleep(30)?;
             alone = alone && desk.ended.load(Ordering::SeqCst) == u64::from(number) + 1;
         }
@@ -68,14 +68,15 @@ fn in_order<X: Acts<Waiter>>(cx: &mut X) -> Result<u32, Refusal> {
 
 /// What two who wait come to, summed up, if the first is cancelled just before there is something for one.
 fn passed_on<X: Acts<Waiter>>(cx: &mut X, want: Want) -> Result<u64, Refusal> {
-    let desk = desk_of(cx)?;
+    let (desk, halves) = desk_of(cx)?;
     let options = cx.move_on_after(5_000);
     scope(cx, Joiner::AwaitAll, options, |cx, scope| {
         limited(
             cx,
             &desk.limiter,
-            |cx| cancels_first(cx, scope, &desk, want),
-        )?;
+            |cx| cancels_first(cx, scope, &desk, &halves, want),
+        )?
+        .into_result()?;
         cx.join(scope)?;
         Ok::<(), Refusal>(())
     })?;
@@ -87,6 +88,7 @@ fn cancels_first<X: Acts<Waiter>>(
     cx: &mut X,
     scope: ScopeId,
     desk: &Arc<Desk, Global>,
+    halves: &Halves,
     want: Want,
 ) -> Result<(), Refusal> {
     fork_waiter(cx, scope, desk, want, true, 2)?;
@@ -94,10 +96,10 @@ fn cancels_first<X: Acts<Waiter>>(
     cx.cancel(desk.own.load(Ordering::SeqCst))?;
     match want {
         Want::Value => {
-            send(cx, &desk.empty, 7)?;
+            send(cx, &halves.into, 7)?;
         }
         Want::Room => {
-            receive(cx, &desk.full)?;
+            receive(cx, &halves.from)?;
         }
         Want::Permit => {}
     }
@@ -107,7 +109,9 @@ fn cancels_first<X: Acts<Waiter>>(
 #[test]
 fn what_comes_wakes_the_first_who_waits(rt: HostRuntime) -> Result<(), Fail> {
     let hands = Hands { rounds: 40 };
-    let seen = serve::<Waiter, Hands, _>(&rt, rt.alloc(), 4, hands).map_err(|_| "refused")?;
+    let seen = serve::<Waiter, (), Hands, _>(&rt, rt.alloc(), 4, Hooks::none(), hands).map_err(
+        |_| "refused",
+    )?;
     assert!(rt; seen == (4, 120));
     Ok(())
 }

@@ -1,10 +1,15 @@
 //! A job that does its work by a handle of its own, and times of events by looks of a service.
 ghost use Rattle.std.specs.Prelude.{◌≡◌};
 
+use balkreyn::by_hand::{
+    Answers, CanFork, JobWithRuntime, Service, Spawner, TaskCtx, WithRuntime, fork, serve_on_pool,
+    within,
+};
+use balkreyn::looks::{InspectByToken, Times};
+use balkreyn::realms::{RealmName, Seed};
 use balkreyn::{
-    Answers, AnyEnd, CanFork, End, Fault, Handle, InspectByToken, JobWithRuntime, Joiner, Name,
-    Options, PoolRuntime, RealmName, Refusal, Seed, Service, ServiceAnswer, Spawner, State,
-    TaskCtx, Times, Value, WithRuntime, fork, serve_on_pool, within,
+    AnyEnd, End, Fault, Handle, Joiner, Name, Options, PoolRuntime, Refusal, ServiceAnswer, State,
+    Value,
 };
 use std::alloc::Global;
 use std::marker::Brand;

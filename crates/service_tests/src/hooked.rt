@@ -1,6 +1,6 @@
 //! A service with hooks: what its observer sees, its counters, and the cap on the jobs at hand.
 
-use balkreyn::act::{Acts, Happening, Hooks, Load, Observes, Serves, Task, scope, serve_with};
+use balkreyn::act::{Acts, Happening, Hooks, Load, Observes, Serves, Task, scope, serve};
 use balkreyn::{
     End, Fault, Joiner, Options, PoolRuntime, Refusal, ServiceAnswer, ServiceError, Value, named,
 };
@@ -103,6 +103,7 @@ impl Serves<Lasts> for Three {
                 let third = cx.fork(scope, named(b"lasts"), Lasts).err();
                 cx.sleep(50)?;
                 cx.cancel(scope)?;
+                cx.join(scope)?;
                 Ok((first, second, third))
             },
         );
@@ -120,10 +121,10 @@ fn hooked<R: PoolRuntime + SystemTime>(
     let hooks = Hooks {
         stop: None,
         watch: None,
-        load: Arc::try_clone(&load)?,
-        observer: Arc::try_clone(&observer)?,
+        load: Some(Arc::try_clone(&load)?),
+        observer: Some(Arc::try_clone(&observer)?),
     };
-    let served = serve_with::<Lasts, Counts, Three, R>(rt, alloc, 2, hooks, Three);
+    let served = serve::<Lasts, Counts, Three, R>(rt, alloc, 2, hooks, Three);
     let wanted = matches!(served, Ok((None, None, Some(Refusal::Memory))));
     let counted = (load.at_hand(), load.forked(), load.refused());
     Ok((observer.all(), counted, wanted))

@@ -1,10 +1,13 @@
 //! Two kinds of typed jobs in one pool, by the names of `balkreyn` alone: the code that docs/GUIDE.md shows.
 ghost use Rattle.std.specs.Prelude.{◌≡◌};
 
+use balkreyn::by_hand::{
+    Answers, CanFork, Job, Service, Spawner, TaskCtx, TypedJob, fork_typed, serve_on_pool,
+};
+use balkreyn::realms::{RealmName, Seed};
 use balkreyn::{
-    Answers, AnyEnd, CanFork, End, Fault, Handle, Job, Joiner, Name, Options, PoolRuntime,
-    RealmName, Refusal, ScopeId, Seed, Service, ServiceAnswer, Slot, Spawner, TaskCtx, Typed,
-    TypedJob, Yields, fork_typed, serve_on_pool,
+    AnyEnd, End, Fault, Handle, Joiner, Name, Options, PoolRuntime, Refusal, ScopeId,
+    ServiceAnswer, Slot, Typed, Yields,
 };
 use std::alloc::Global;
 use std::marker::Brand;

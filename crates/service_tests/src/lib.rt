@@ -13,7 +13,11 @@ mod completing;
 #[cfg(test)]
 mod counting;
 #[cfg(test)]
+mod deadlines;
+#[cfg(test)]
 mod fairness;
+#[cfg(test)]
+mod halves;
 #[cfg(test)]
 mod handing;
 #[cfg(test)]
@@ -23,17 +27,27 @@ mod hooked;
 #[cfg(test)]
 mod kinds;
 #[cfg(test)]
+mod lines;
+#[cfg(test)]
+mod mapping;
+#[cfg(test)]
+mod owing;
+#[cfg(test)]
+mod passing;
+#[cfg(test)]
+mod permits;
+#[cfg(test)]
 mod requests;
 #[cfg(test)]
-mod rotation;
+mod resting;
+#[cfg(test)]
+mod serving;
 #[cfg(test)]
 mod shields;
 #[cfg(test)]
 mod stopping;
 #[cfg(test)]
 mod storm;
-#[cfg(test)]
-mod turns;
 #[cfg(test)]
 mod waiters;
 #[cfg(test)]

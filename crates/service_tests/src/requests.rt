@@ -2,11 +2,14 @@
 //! alone.
 ghost use Rattle.std.specs.Prelude.{◌≡◌};
 
+use balkreyn::by_hand::{
+    Answers, CanFork, Clock, Job, NamedJob, ScopeGuard, Service, Spawner, SystemClock, TaskCtx,
+    fail_after, fork, realm_clock, serve_on_pool, within, within_by,
+};
+use balkreyn::realms::{RealmName, Seed};
 use balkreyn::{
-    Answers, AnyEnd, CanFork, Clock, End, Fault, Handle, Job, Joiner, Label, Name, NamedJob,
-    NoTime, Options, Outcome, PoolRuntime, RealmName, Refusal, ScopeGuard, ScopeId, Seed, Service,
-    ServiceAnswer, Spawner, SystemClock, TaskCtx, TaskValue, Value, Verdict, fail_after, fork,
-    realm_clock, serve_on_pool, within, within_by,
+    AnyEnd, End, Fault, Handle, Joiner, Label, Name, NoTime, Options, Outcome, PoolRuntime,
+    Refusal, ScopeId, ServiceAnswer, TaskValue, Value, Verdict,
 };
 use std::alloc::Global;
 use std::marker::Brand;

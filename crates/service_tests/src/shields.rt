@@ -1,11 +1,15 @@
 //! Closes by a clock: a deadline behind a shield passes while the owner closes, and nobody else waits by a clock.
 ghost use Rattle.std.specs.Prelude.{◌≡◌};
 
+use balkreyn::by_hand::{
+    Answers, CanFork, Job, ScopeGuard, Service, Spawner, SystemClock, TaskCtx, fail_after, fork,
+    realm_clock, serve_on_pool, within, within_by,
+};
+use balkreyn::looks::LogEntry;
+use balkreyn::realms::{RealmName, Seed};
 use balkreyn::{
-    Answers, AnyEnd, CanFork, End, Fault, Handle, Job, Joiner, LogEntry, Name, Options,
-    PoolRuntime, RealmName, Refusal, ScopeGuard, Seed, Service, ServiceAnswer, ServiceError,
-    Spawner, SystemClock, TaskCtx, Value, fail_after, fork, realm_clock, serve_on_pool, within,
-    within_by,
+    AnyEnd, End, Fault, Handle, Joiner, Name, Options, PoolRuntime, Refusal, ServiceAnswer,
+    ServiceError, Value,
 };
 use std::alloc::Global;
 use std::marker::Brand;
@@ -63,7 +67,7 @@ fn close_around<R: Handle, N: RealmName, S: CanFork<AnyEnd, N, Lingers<R>>>(
 ) -> Result<bool, Refusal> {
     let mut clock = job.clock;
     if let Way::Within = way {
-        return within_by(
+        let found = within_by(
             rt,
             ctx,
             Joiner::AwaitAll,
@@ -71,9 +75,10 @@ fn close_around<R: Handle, N: RealmName, S: CanFork<AnyEnd, N, Lingers<R>>>(
             clock,
             |ctx, scope| {
                 fork(rt, ctx, scope, job.name, job)?;
-                Ok(true)
+                Ok::<bool, Refusal>(true)
             },
         );
+        return Ok(found == Err(Refusal::NotJoined));
     }
     let scope = ScopeGuard::at(rt, ctx, Joiner::AwaitAll, Options::PLAIN)?;
     let forked = fork(rt, ctx, scope.number(), job.name, job);

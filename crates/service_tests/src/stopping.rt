@@ -1,6 +1,6 @@
 //! A service that is stopped from outside, by a call and by a file: what it does ends, and what is behind a shield is done.
 
-use balkreyn::act::{Acts, Serves, Stop, Task, scope, serve_until, shielded};
+use balkreyn::act::{Acts, Hooks, Serves, Stop, Task, scope, serve, shielded};
 use balkreyn::{
     End, Fault, Joiner, Options, Outcome, PoolRuntime, Refusal, ServiceAnswer, ServiceError, Value,
     named,
@@ -35,7 +35,7 @@ fn lasted<X: Acts<Lasts>>(cx: &mut X) -> Result<bool, Refusal> {
     Ok(ended && audited)
 }
 
-/// How the stop is asked for.
+/// How the stop is asked for: by a call once the service's watch waits for that, or by a file at once.
 #[derive(Drop)]
 enum Asks {
     ByCall(Arc<Stop, Global>),
@@ -64,7 +64,10 @@ impl ServiceAnswer for Lasting {
 impl Serves<Lasts> for Lasting {
     fn serve<X: Acts<Lasts>>(self, cx: &mut X) -> Result<Seen, ServiceError> {
         match &self.asks {
-            Asks::ByCall(stop) => stop.ask(cx),
+            Asks::ByCall(stop) => {
+                cx.sleep(50)?;
+                stop.ask(cx);
+            }
             Asks::ByFile(io) => {
                 std::fs::write(io, "asked-to-stop", "").map_err(|_| Refusal::Unavailable)?;
             }
@@ -96,7 +99,11 @@ fn stops<R: PoolRuntime + SystemTime>(
     asks: Asks,
 ) -> Option<bool> {
     let before = Instant::now(&io).ok()?;
-    let served = serve_until::<Lasts, Lasting, R>(rt, io.alloc(), 2, stop, Lasting { asks });
+    let hooks = Hooks {
+        stop: Some(stop),
+        ..Hooks::none()
+    };
+    let served = serve::<Lasts, (), Lasting, R>(rt, io.alloc(), 2, hooks, Lasting { asks });
     let waited = before.elapsed(&io).ok()?;
     let wanted = Seen {
         main: true,

@@ -1,6 +1,9 @@
 //! Many who send and receive over a small channel, some of them cancelled: each number is received once, or comes back.
 
-use balkreyn::act::{Acts, Channel, Received, Sent, Serves, Task, receive, scope, send, serve};
+use balkreyn::act::{
+    Acts, Hooks, Received, Receiver, Sender, Sent, Serves, Task, channel, receive, scope, send,
+    serve,
+};
 use balkreyn::{End, Fault, Joiner, Options, Refusal, ServiceAnswer, ServiceError, Value, named};
 use std::alloc::Global;
 use std::process::Abort;
@@ -15,10 +18,9 @@ const SENDERS: u64 = 4;
 
 const RECEIVERS: u64 = 3;
 
-/// What main and its jobs share: the channel, and how often each number was received or came back.
+/// What main and its jobs share: how often each number was received or came back.
 #[derive(Drop)]
 struct Sea {
-    channel: Channel<u64>,
     seen: Vec<AtomicU64>,
 }
 
@@ -35,15 +37,22 @@ impl Sea {
 /// A job that sends its numbers from the first on, or one that receives until the channel is closed.
 #[derive(Drop)]
 enum Ship {
-    Sends { first: u64, sea: Arc<Sea, Global> },
-    Receives(Arc<Sea, Global>),
+    Sends {
+        first: u64,
+        into: Sender<u64>,
+        sea: Arc<Sea, Global>,
+    },
+    Receives {
+        from: Receiver<u64>,
+        sea: Arc<Sea, Global>,
+    },
 }
 
 impl Task for Ship {
     fn run<X: Acts<Ship>>(self, cx: &mut X) -> End {
         let done = match self {
-            Ship::Sends { first, sea } => sends(cx, &sea, first),
-            Ship::Receives(sea) => receives(cx, &sea),
+            Ship::Sends { first, into, sea } => sends(cx, &into, &sea, first),
+            Ship::Receives { from, sea } => receives(cx, &from, &sea),
         };
         match done {
             Ok(()) => Ok(Value::Num(0)),
@@ -53,12 +62,17 @@ impl Task for Ship {
 }
 
 /// Sends the numbers, each within no more than two milliseconds.
-fn sends<X: Acts<Ship>>(cx: &mut X, sea: &Sea, first: u64) -> Result<(), Refusal> {
+fn sends<X: Acts<Ship>>(
+    cx: &mut X,
+    into: &Sender<u64>,
+    sea: &Sea,
+    first: u64,
+) -> Result<(), Refusal> {
     for step in 0..EACH {
         let number = first.saturating_add(step);
         let options = cx.move_on_after(step % 3);
         let sent = scope(cx, Joiner::AwaitAll, options, |cx, _scope| {
-            send(cx, &sea.channel, number)
+            send(cx, into, number)
         })?;
         match sent {
             Sent::Done => {}
@@ -70,7 +84,7 @@ fn sends<X: Acts<Ship>>(cx: &mut X, sea: &Sea, first: u64) -> Result<(), Refusal
 
 /// Receives until the channel is closed; each fourth time it waits for no more than a millisecond. Behind each eighth number
 /// it sleeps.
-fn receives<X: Acts<Ship>>(cx: &mut X, sea: &Sea) -> Result<(), Refusal> {
+fn receives<X: Acts<Ship>>(cx: &mut X, from: &Receiver<u64>, sea: &Sea) -> Result<(), Refusal> {
     for round in 0..u32::MAX {
         let options = if round % 4 == 0 {
             cx.move_on_after(1)
@@ -81,7 +95,7 @@ fn receives<X: Acts<Ship>>(cx: &mut X, sea: &Sea) -> Result<(), Refusal> {
             cx,
             Joiner::AwaitAll,
             options,
-            |cx, _scope| receive(cx, &sea.channel),
+            |cx, _scope| receive(cx, from),
         )?;
         match received {
             Received::Value(number) => {
@@ -111,10 +125,9 @@ impl Serves<Ship> for Storms {
     fn serve<X: Acts<Ship>>(self, cx: &mut X) -> Result<u64, ServiceError> {
         let mut seen = Vec::new(cx.alloc());
         for _ in 0..EACH * SENDERS {
-            seen.push(AtomicU64::new(0)).map_err(|_| Refusal::Memory)?;
+            seen.push(AtomicU64::new(0))?;
         }
-        let channel = Channel::bounded(cx.alloc(), 2).map_err(Refusal::from)?;
-        let sea = Arc::new(cx.alloc(), Sea { channel, seen }).map_err(|_| Refusal::Memory)?;
+        let sea = Arc::new(cx.alloc(), Sea { seen })?;
         sailed(cx, &sea)?;
         let mut once = 0u64;
         for count in sea.seen.iter() {
@@ -126,35 +139,31 @@ impl Serves<Ship> for Storms {
     }
 }
 
-/// Runs all jobs; the channel is closed once all numbers are sent.
+/// Runs all jobs; the channel is closed once all numbers are sent, since the last who can send is gone.
 fn sailed<X: Acts<Ship>>(cx: &mut X, sea: &Arc<Sea, Global>) -> Result<(), Refusal> {
+    let (into, from) = channel(cx.alloc(), 2)?;
     let options = cx.move_on_after(20_000);
-    scope(cx, Joiner::AwaitAll, options, |cx, receivers| {
+    scope(cx, Joiner::AwaitAll, options, |cx, scope| {
         for _ in 0..RECEIVERS {
-            cx.fork(
-                receivers,
-                named(b"receives"),
-                Ship::Receives(Arc::try_clone(sea)?),
-            )?;
+            let (from, sea) = (from.share()?, Arc::try_clone(sea)?);
+            cx.fork(scope, named(b"receives"), Ship::Receives { from, sea })?;
         }
-        scope(cx, Joiner::AwaitAll, Options::PLAIN, |cx, senders| {
-            for sender in 0..SENDERS {
-                let sea = Arc::try_clone(sea)?;
-                let first = EACH.saturating_mul(sender);
-                cx.fork(senders, named(b"sends"), Ship::Sends { first, sea })?;
-            }
-            cx.join(senders)?;
-            Ok::<(), Refusal>(())
-        })?;
-        sea.channel.close(cx);
-        cx.join(receivers)?;
+        for sender in 0..SENDERS {
+            let (into, sea) = (into.share()?, Arc::try_clone(sea)?);
+            let first = EACH.saturating_mul(sender);
+            cx.fork(scope, named(b"sends"), Ship::Sends { first, into, sea })?;
+        }
+        drop(into);
+        cx.join(scope)?;
         Ok::<(), Refusal>(())
     })
 }
 
 #[test]
 fn each_number_is_received_once_or_comes_back(rt: HostRuntime) -> Result<(), Fail> {
-    let once = serve::<Ship, Storms, _>(&rt, rt.alloc(), 8, Storms).map_err(|_| "refused")?;
+    let once = serve::<Ship, (), Storms, _>(&rt, rt.alloc(), 8, Hooks::none(), Storms).map_err(
+        |_| "refused",
+    )?;
     assert!(rt; once == EACH * SENDERS);
     Ok(())
 }

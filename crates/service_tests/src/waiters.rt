@@ -1,17 +1,21 @@
 //! Jobs that wait for a value, for room or for a permit, and what they share with main.
 
-use balkreyn::act::{Acts, Channel, Limiter, Received, Sent, Task, limited, receive, scope, send};
+use balkreyn::act::{
+    Acts, Came, Limiter, Received, Receiver, Sender, Sent, Task, channel, limited, receive, scope,
+    send,
+};
 use balkreyn::{End, Fault, Joiner, Options, Refusal, ScopeId, Value, named};
 use std::alloc::Global;
 use std::sync::Arc;
 use std::sync::atomic::{AtomicU32, AtomicU64, Ordering};
 
-/// What main and its jobs share: a channel without a value, one without room, and a limiter of one permit; how many jobs
-/// wait, how many have ended, and what they came to, summed up; and the scope that one of them has of its own.
+/// What main and its jobs share: a half of a channel without a value, one of a channel without room, and a limiter of one
+/// permit; how many jobs wait, how many have ended, and what they came to, summed up; and the scope that one of them has of its
+/// own.
 #[derive(Drop)]
 pub struct Desk {
-    pub empty: Channel<u32>,
-    pub full: Channel<u32>,
+    empty: Receiver<u32>,
+    full: Sender<u32>,
     pub limiter: Limiter,
     pub waiting: AtomicU64,
     pub ended: AtomicU64,
@@ -19,19 +23,28 @@ pub struct Desk {
     pub own: AtomicU32,
 }
 
+/// The other halves, which main has.
+#[derive(Drop)]
+pub struct Halves {
+    pub into: Sender<u32>,
+    pub from: Receiver<u32>,
+}
+
 /// A desk at which nobody waits.
-pub fn desk_of<X: Acts<Waiter>>(cx: &mut X) -> Result<Arc<Desk, Global>, Refusal> {
+pub fn desk_of<X: Acts<Waiter>>(cx: &mut X) -> Result<(Arc<Desk, Global>, Halves), Refusal> {
+    let (into, empty) = channel(cx.alloc(), 4)?;
+    let (full, from) = channel(cx.alloc(), 1)?;
     let desk = Desk {
-        empty: Channel::bounded(cx.alloc(), 4)?,
-        full: Channel::bounded(cx.alloc(), 1)?,
-        limiter: Limiter::new(cx.alloc(), 1),
+        empty,
+        full,
+        limiter: Limiter::new(cx.alloc(), 1)?,
         waiting: AtomicU64::new(0),
         ended: AtomicU64::new(0),
         came: AtomicU64::new(0),
         own: AtomicU32::new(0),
     };
     match send(cx, &desk.full, 5)? {
-        Sent::Done => Ok(Arc::new(cx.alloc(), desk)?),
+        Sent::Done => Ok((Arc::new(cx.alloc(), desk)?, Halves { into, from })),
         _ => Err(Refusal::Unavailable),
     }
 }
@@ -114,8 +127,9 @@ impl Waiter {
                 Sent::Cancelled(_six) => Ok(CANCELLED),
             },
             Want::Permit => match limited(cx, &self.desk.limiter, |_cx| Ok::<u32, Refusal>(2))? {
-                Some(two) => Ok(two),
-                None => Ok(CANCELLED),
+                Came::Value(two) => Ok(two),
+                Came::Failed(refusal) => Err(refusal),
+                Came::Cut(_) => Ok(CANCELLED),
             },
         }
     }

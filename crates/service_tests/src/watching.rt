@@ -1,11 +1,15 @@
 //! A look at a request that hangs: the code that docs/GUIDE.md shows.
 ghost use Rattle.std.specs.Prelude.{◌≡◌};
 
+use balkreyn::by_hand::{
+    Answers, CanFork, Clock, Job, Service, Spawner, SystemClock, TaskCtx, TypedJob, fork,
+    fork_typed, realm_clock, serve_on_pool, within,
+};
+use balkreyn::looks::{Inspect, InspectByToken};
+use balkreyn::realms::{Realm, RealmName, Seed};
 use balkreyn::{
-    Answers, AnyEnd, CanFork, Clock, End, Fault, Handle, Inspect, InspectByToken, Job, Joiner,
-    Name, Options, PoolRuntime, Realm, RealmName, Refusal, ScopeId, Seed, Service, ServiceAnswer,
-    ServiceError, Spawner, SystemClock, TaskCtx, Typed, TypedJob, Value, Yields, fork, fork_typed,
-    realm_clock, serve_on_pool, within,
+    AnyEnd, End, Fault, Handle, Joiner, Name, Options, PoolRuntime, Refusal, ScopeId,
+    ServiceAnswer, ServiceError, Typed, Value, Yields,
 };
 use std::alloc::Global;
 use std::marker::Brand;

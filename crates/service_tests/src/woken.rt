@@ -1,8 +1,8 @@
 //! Who waits at a channel or a limiter makes no look while nothing is there for it, and is woken by what ends its wait.
 
 use super::counting::Counting;
-use super::waiters::{Desk, Waiter, Want, desk_of, fork_waiter};
-use balkreyn::act::{Acts, Serves, limited, receive, scope, send, serve};
+use super::waiters::{Desk, Halves, Waiter, Want, desk_of, fork_waiter};
+use balkreyn::act::{Acts, Hooks, Serves, limited, receive, scope, send, serve};
 use balkreyn::{Joiner, PoolRuntime, Refusal, ScopeId, ServiceAnswer, ServiceError};
 use std::alloc::Global;
 use std::process::Abort;
@@ -35,14 +35,16 @@ impl ServiceAnswer for Plays {
 
 impl Serves<Waiter> for Plays {
     fn serve<X: Acts<Waiter>>(self, cx: &mut X) -> Result<(u64, u64), ServiceError> {
-        let desk = desk_of(cx)?;
+        let (desk, halves) = desk_of(cx)?;
+        let mut halves = Some(halves);
         let options = match self.ends {
             Ends::ByDeadline => cx.move_on_after(400),
+            Ends::ByCancel => cx.move_on_after(600_000), // nothing but the cancel wakes them
             _ => cx.move_on_after(5_000),
         };
         let read = scope(cx, Joiner::AwaitAll, options, |cx, scope| {
-            let read = limited(cx, &desk.limiter, |cx| self.holds(cx, scope, &desk))?;
-            self.ends(cx, &desk)?;
+            let read = limited(cx, &desk.limiter, |cx| self.holds(cx, scope, &desk))?.value();
+            self.ends(cx, &mut halves)?;
             cx.join(scope)?;
             Ok::<Option<u64>, Refusal>(read)
         })?;
@@ -77,17 +79,14 @@ impl Plays {
         Ok(behind.wrapping_sub(before))
     }
 
-    /// Ends the waits at the channels.
-    fn ends<X: Acts<Waiter>>(self, cx: &mut X, desk: &Desk) -> Result<(), Refusal> {
-        match self.ends {
-            Ends::BySuccess => {
-                send(cx, &desk.empty, 7)?;
-                receive(cx, &desk.full)?;
+    /// Ends the waits at the channels; a close drops the halves.
+    fn ends<X: Acts<Waiter>>(self, cx: &mut X, halves: &mut Option<Halves>) -> Result<(), Refusal> {
+        match (self.ends, &*halves) {
+            (Ends::BySuccess, Some(halves)) => {
+                send(cx, &halves.into, 7)?;
+                receive(cx, &halves.from)?;
             }
-            Ends::ByClose => {
-                desk.empty.close(cx);
-                desk.full.close(cx);
-            }
+            (Ends::ByClose, _) => *halves = None,
             _ => {}
         }
         Ok(())
@@ -101,7 +100,13 @@ fn played<R: PoolRuntime + SystemTime>(rt: R, alloc: Global, ends: Ends) -> Opti
         ends,
         readings: counting.readings,
     };
-    let (came, read) = serve::<Waiter, Plays, _>(&counting, alloc, 4, plays).ok()?;
+    let (came, read) = serve::<Waiter, (), Plays, _>(
+        &counting,
+        alloc,
+        4,
+        Hooks::none(),
+        plays,
+    ).ok()?;
     if read <= 20 { Some(came) } else { None }
 }
 

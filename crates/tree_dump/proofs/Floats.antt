@@ -2,17 +2,21 @@
 use Rattle.std.proofs.Common.{◌≡◌, ℕ, zero, suc, false, List, [], ◌∷◌, map, Option, Some, None, option_map, refl}
 use Rattle.std.specs.Option.{option_map_or}
 use Rattle.scope_rules.specs.declared.types.answers.Cause.{Cause}
+use Rattle.scope_rules.specs.declared.types.answers.State.{State}
+use Rattle.scope_rules.specs.declared.types.answers.State.TheVariants.{Unavailable, Success, Failed}
 use Rattle.scope_rules.specs.declared.types.infos.ScopeInfo.{ScopeInfo}
+use Rattle.scope_rules.specs.declared.types.values.Value.TheVariants.{Num, Text}
 use Rattle.scope_rules.specs.declared.types.capacity.Limits.{Limits}
 use Rattle.scope_rules.specs.History.{History}
 use Rattle.scope_rules.specs.Nests.{outermost, inner, info, tasks_of}
 use Rattle.serde_json.specs.Data.{Data, Items, null}
 use Rattle.serde_json.specs.View.{items_of}
 use Rattle.serde_json.specs.Written.{has_float, items_have_float}
-use Rattle.tree_dump.specs.Ages.{Clock, scope_since, task_since}
-use Rattle.tree_dump.specs.Objects.{number_or_null, cause_or_null, scope_object, task_object}
+use Rattle.tree_dump.specs.Ages.{Clock, scope_since, task_times}
+use Rattle.tree_dump.specs.Objects.{number_or_null, cause_or_null, result_data, scope_object, task_object}
 use Rattle.tree_dump.specs.Tree.{task_told, task_shown, tasks_shown, scope_shown, nested, levels, dump_data}
 use Rattle.tree_dump.specs.Timed.{timed_dump_data}
+use Rattle.tree_dump.specs.declared.ages.TaskTimes.{TaskTimes}
 use Rattle.tree_dump.specs.declared.told.TaskTold.{TaskTold}
 
 number_whole : (n : Option ℕ) → has_float (number_or_null n) ≡ false
@@ -28,10 +32,16 @@ unfolding scope_object
 scope_whole i None inner tasks a b = rw (cause_whole i.cause) (rw (number_whole i.deadline) (rw a (rw b refl)))
 scope_whole i (Some reading) inner tasks a b = rw (number_whole reading) (rw (cause_whole i.cause) (rw (number_whole i.deadline) (rw a (rw b refl))))
 
-task_whole : (t : TaskTold) (since : Option (Option ℕ)) (inner : Data) → has_float inner ≡ false → has_float (task_object t since inner) ≡ false
+result_whole : (s : State) → has_float (result_data s) ≡ false
+result_whole Unavailable = refl
+result_whole (Success (Num n)) = refl
+result_whole (Success (Text name)) = refl
+result_whole (Failed fault) = refl
+
+task_whole : (t : TaskTold) (times : Option TaskTimes) (inner : Data) → has_float inner ≡ false → has_float (task_object t times inner) ≡ false
 unfolding task_object
 task_whole t None inner a = rw a refl
-task_whole t (Some reading) inner a = rw (number_whole reading) (rw a refl)
+task_whole t (Some times) inner a = rw (number_whole times.since) (rw (number_whole times.ended) (rw (result_whole t.state) (rw a refl)))
 
 items_whole : {A : Type 0} (f : A → Data) (xs : List A) → ((x : A) → has_float (f x) ≡ false) → items_have_float (items_of (map f xs)) ≡ false
 items_whole f [] each = refl
@@ -40,9 +50,9 @@ items_whole f (x ∷ xs) each = rw (each x) (items_whole f xs each)
 shown_whole : (by : Option Clock) (h : History) (inside : Option ℕ → Data) → ((place : Option ℕ) → has_float (inside place) ≡ false) → (s : ℕ) → has_float (scope_shown by h inside s) ≡ false
 shown_whole by h inside each s = on (info h s)
   where
-    task : (k : ℕ) (t : Option TaskTold) → has_float (option_map_or (λ told. task_object told (option_map (λ c. task_since c h told.task told.stage) by) (inside told.inner)) t null) ≡ false
+    task : (k : ℕ) (t : Option TaskTold) → has_float (option_map_or (λ told. task_object told (option_map (λ c. task_times c h told.task told.stage) by) (inside told.inner)) t null) ≡ false
     task k None = refl
-    task k (Some t) = task_whole t (option_map (λ c. task_since c h t.task t.stage) by) (inside t.inner) (each t.inner)
+    task k (Some t) = task_whole t (option_map (λ c. task_times c h t.task t.stage) by) (inside t.inner) (each t.inner)
 
     on : (i : Option ScopeInfo) → has_float (option_map_or (λ i. scope_object i (option_map (λ c. scope_since c h i.scope) by) (inside (inner h s)) (tasks_shown by h inside s)) i null) ≡ false
     on None = refl

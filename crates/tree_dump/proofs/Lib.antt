@@ -17,3 +17,4 @@ mod Summed
 mod ShowsAwaited
 mod Lying
 mod ShowsLevels
+mod Stamped

@@ -1,5 +1,5 @@
 -- How an object's members and a list's items follow one another, and how many tasks a scope has.
-use Rattle.std.proofs.Common.{◌≡◌, ℕ, suc, ◌+◌, ◌≤◌, ◌&&◌, Bool, true, false, cond, List, [], ◌∷◌, map, length, drop, Option, Some, None, slice_get, count_by, codes, refl, sym, ap, ◌∙◌, subst, arith}
+use Rattle.std.proofs.Common.{◌≡◌, ℕ, suc, ◌+◌, ◌≤◌, ◌&&◌, Bool, true, false, cond, List, [], ◌∷◌, map, length, drop, Option, Some, None, option_map, slice_get, count_by, codes, refl, sym, ap, ◌∙◌, subst, arith}
 use Rattle.std.proofs.lemmas.List.{drop_more, drop_all}
 use Rattle.std.proofs.lemmas.List.Sums.{sum_by-cons, length-filter}
 use Rattle.std.proofs.lemmas.Option.{slice_get_within, get_or_from_slice_get}
@@ -17,10 +17,11 @@ use Rattle.scope_rules.specs.Tasks.{stage, is_at, is_stage, counts}
 use Rattle.scope_rules.specs.Names.{text_of}
 use Rattle.scope_rules.specs.Texts.{stage_word, state_word}
 use Rattle.scope_log.specs.LogText.{joiner_text}
-use Rattle.tree_dump.specs.Objects.{number_or_null, with_since, cause_or_null, scope_object, task_object}
+use Rattle.tree_dump.specs.Objects.{number_or_null, with_more, with_since, cause_or_null, result_data, scope_object, task_object}
 use Rattle.tree_dump.specs.Words.{expiry_word, scope_stage_word}
+use Rattle.tree_dump.specs.declared.ages.TaskTimes.{TaskTimes}
 use Rattle.tree_dump.specs.declared.told.TaskTold.{TaskTold}
-use Rattle.tree_dump.specs.Sent.{SendsMember, SendsSince, count_since}
+use Rattle.tree_dump.specs.Sent.{SendsMember, SendsMore, SendsSince, scope_members, task_members}
 
 -- ---- members and items
 
@@ -46,13 +47,16 @@ member_as key value other old new same sent = subst (λ d. SendsMember key d old
 
 -- ---- the objects
 
--- since when, if that is told, and then the rest
+-- a member more, if there is one, and then the rest
+more_sent : (key : List ℕ) (value : Option Data) (rest : Members) (old mid new : Log) → SendsMore key value old mid → SendsMembers rest mid new → SendsMembers (with_more key value rest) old new
+more_sent key None rest old mid new same more = subst (λ l. SendsMembers rest l new) same more
+more_sent key (Some value) rest old mid new one more = (one.0, mid, one.1, one.2, more)
+
 since_sent : (since : Option (Option ℕ)) (rest : Members) (old mid new : Log) → SendsSince since old mid → SendsMembers rest mid new → SendsMembers (with_since since rest) old new
-since_sent None rest old mid new same more = subst (λ l. SendsMembers rest l new) same more
-since_sent (Some reading) rest old mid new one more = (one.0, mid, one.1, one.2, more)
+since_sent since rest old mid new one more = more_sent _ (option_map number_or_null since) rest old mid new one more
 
 pub scope_sent : (i : ScopeInfo) (since : Option (Option ℕ)) (inside : Data) (tasks : Items) (expiry how : List ℕ) (old l0 l1 l2 l3 l4 l5 l6 l7 l8 l9 l10 l11 l12 new : Log) →
-    expiry ≡ expiry_word i.expiry → how ≡ scope_stage_word i.stage → Logs old l0 (map_begins (Some (count_since since 11))) →
+    expiry ≡ expiry_word i.expiry → how ≡ scope_stage_word i.stage → Logs old l0 (map_begins (Some (scope_members since))) →
     SendsMember (codes "cause") (cause_or_null i.cause) l0 l1 → SendsMember (codes "deadline") (number_or_null i.deadline) l1 l2 →
     SendsMember (codes "expiry") (string expiry) l2 l3 → SendsMember (codes "id") (number (unsigned i.scope)) l3 l4 → SendsMember (codes "inner") inside l4 l5 →
     SendsMember (codes "joined") (boolean i.joined) l5 l6 → SendsMember (codes "joiner") (string (joiner_text i.policy)) l6 l7 →
@@ -125,38 +129,40 @@ scope_sent i since inside tasks expiry how old l0 l1 l2 l3 l4 l5 l6 l7 l8 l9 l10
     stage_on : Members
     stage_on = member (codes "stage") (string (scope_stage_word i.stage)) (member (codes "tasks") (array tasks) no_members)
 
-    many : (since : Option (Option ℕ)) → count_since since 11 ≡ suc (suc (suc (suc (suc (suc (suc (suc (suc (members_len (with_since since stage_on))))))))))
+    many : (since : Option (Option ℕ)) → scope_members since ≡ suc (suc (suc (suc (suc (suc (suc (suc (suc (members_len (with_since since stage_on))))))))))
     many None = refl
     many (Some reading) = refl
 
-pub task_sent : (t : TaskTold) (since : Option (Option ℕ)) (inside : Data) (name how state : List ℕ) (old l0 l1 l2 l3 l4 l5 l6 new : Log) →
-    name ≡ text_of t.label.name → how ≡ stage_word t.stage → state ≡ state_word t.state → Logs old l0 (map_begins (Some (count_since since 5))) →
-    SendsMember (codes "id") (number (unsigned t.task)) l0 l1 → SendsMember (codes "inner") inside l1 l2 → SendsMember (codes "name") (string name) l2 l3 → SendsSince since l3 l4 →
-    SendsMember (codes "stage") (string how) l4 l5 → SendsMember (codes "state") (string state) l5 l6 → Logs l6 new map_ends →
-    SendsValue (task_object t since inside) old new
+pub task_sent : (t : TaskTold) (times : Option TaskTimes) (inside : Data) (name how state : List ℕ) (old l0 l1 l2 l3 l4 l5 l6 l7 l8 new : Log) →
+    name ≡ text_of t.label.name → how ≡ stage_word t.stage → state ≡ state_word t.state → Logs old l0 (map_begins (Some (task_members times))) →
+    SendsMore (codes "ended") (option_map (λ x. number_or_null x.ended) times) l0 l1 → SendsMember (codes "id") (number (unsigned t.task)) l1 l2 → SendsMember (codes "inner") inside l2 l3 →
+    SendsMember (codes "name") (string name) l3 l4 → SendsMore (codes "result") (option_map (λ x. result_data t.state) times) l4 l5 → SendsSince (option_map (λ x. x.since) times) l5 l6 →
+    SendsMember (codes "stage") (string how) l6 l7 → SendsMember (codes "state") (string state) l7 l8 → Logs l8 new map_ends →
+    SendsValue (task_object t times inside) old new
 unfolding task_object
-task_sent t since inside name how state old l0 l1 l2 l3 l4 l5 l6 new n g s begun id inner named from staged stated ended =
-    let named : SendsMember (codes "name") (string (text_of t.label.name)) l2 l3 = member_as (codes "name") _ _ l2 l3 (ap string n) named in
-    let staged : SendsMember (codes "stage") (string (stage_word t.stage)) l4 l5 = member_as (codes "stage") _ _ l4 l5 (ap string g) staged in
-    let stated : SendsMember (codes "state") (string (state_word t.state)) l5 l6 = member_as (codes "state") _ _ l5 l6 (ap string s) stated in (
+task_sent t times inside name how state old l0 l1 l2 l3 l4 l5 l6 l7 l8 new n g s begun ended id inner named result from staged stated end =
+    let named : SendsMember (codes "name") (string (text_of t.label.name)) l3 l4 = member_as (codes "name") _ _ l3 l4 (ap string n) named in
+    let staged : SendsMember (codes "stage") (string (stage_word t.stage)) l6 l7 = member_as (codes "stage") _ _ l6 l7 (ap string g) staged in
+    let stated : SendsMember (codes "state") (string (state_word t.state)) l7 l8 = member_as (codes "state") _ _ l7 l8 (ap string s) stated in (
       l0,
-      subst (λ n. Logs old l0 (map_begins (Some n))) (many since) begun,
-      (
+      subst (λ n. Logs old l0 (map_begins (Some n))) (many times) begun,
+      more_sent (codes "ended") (option_map (λ x. number_or_null x.ended) times) (others times) l0 l1 new ended (
         id.0,
-        l1,
+        l2,
         id.1,
         id.2,
         (
           inner.0,
-          l2,
+          l3,
           inner.1,
           inner.2,
           (
             named.0,
-            l3,
+            l4,
             named.1,
             named.2,
-            since_sent since stage_on l3 l4 new from (staged.0, l5, staged.1, staged.2, (stated.0, l6, stated.1, stated.2, ended)),
+            more_sent (codes "result") (option_map (λ x. result_data t.state) times) (since_on times) l4 l5 new result
+                (since_sent (option_map (λ x. x.since) times) stage_on l5 l6 new from (staged.0, l7, staged.1, staged.2, (stated.0, l8, stated.1, stated.2, end))),
           ),
         ),
       ),
@@ -165,9 +171,17 @@ task_sent t since inside name how state old l0 l1 l2 l3 l4 l5 l6 new n g s begun
     stage_on : Members
     stage_on = member (codes "stage") (string (stage_word t.stage)) (member (codes "state") (string (state_word t.state)) no_members)
 
-    many : (since : Option (Option ℕ)) → count_since since 5 ≡ suc (suc (suc (members_len (with_since since stage_on))))
+    since_on : Option TaskTimes → Members
+    since_on o = with_since (option_map (λ x. x.since) o) stage_on
+
+    others : Option TaskTimes → Members
+    others o =
+        member (codes "id") (number (unsigned t.task))
+        (member (codes "inner") inside (member (codes "name") (string (text_of t.label.name)) (with_more (codes "result") (option_map (λ x. result_data t.state) o) (since_on o))))
+
+    many : (o : Option TaskTimes) → task_members o ≡ members_len (with_more (codes "ended") (option_map (λ x. number_or_null x.ended) o) (others o))
     many None = refl
-    many (Some reading) = refl
+    many (Some x) = refl
 
 -- ---- how many there are
 

@@ -7,10 +7,11 @@ use Rattle.scope_rules.specs.History.{History, moment}
 use Rattle.scope_rules.specs.Nests.{info, inner, outermost, tasks_of}
 use Rattle.serde_json.specs.Data.{Data, Items, null, number, unsigned, object, member, no_members}
 use Rattle.serde_json.specs.View.{items_of}
-use Rattle.tree_dump.specs.Ages.{Clock, scope_since, task_since}
+use Rattle.tree_dump.specs.Ages.{Clock, scope_since, task_times}
 use Rattle.tree_dump.specs.Objects.{cause_or_null, number_or_null, scope_object, task_object}
 use Rattle.tree_dump.specs.TimedAdds.{TimedAdds, is_added, items_without, without}
 use Rattle.tree_dump.specs.Tree.{levels, nested, scope_shown, task_shown, task_told, tasks_shown}
+use Rattle.tree_dump.specs.declared.ages.TaskTimes.{TaskTimes}
 use Rattle.tree_dump.specs.declared.told.TaskTold.{TaskTold}
 
 number_stays : (n : Option ℕ) → without is_added (number_or_null n) ≡ number_or_null n
@@ -26,9 +27,9 @@ scope_stays : (i : ScopeInfo) (reading : Option ℕ) (inside other : Data) (task
 unfolding scope_object
 scope_stays i reading inside other tasks others a b = rw (cause_stays i.cause) (rw (number_stays i.deadline) (rw a (rw b refl)))
 
-task_stays : (t : TaskTold) (reading : Option ℕ) (inside other : Data) → without is_added inside ≡ other → without is_added (task_object t (Some reading) inside) ≡ task_object t None other
+task_stays : (t : TaskTold) (times : TaskTimes) (inside other : Data) → without is_added inside ≡ other → without is_added (task_object t (Some times) inside) ≡ task_object t None other
 unfolding task_object
-task_stays t reading inside other a = rw a refl
+task_stays t times inside other a = rw a refl
 
 items_stay : {A : Type 0} (f g : A → Data) (xs : List A) → ((x : A) → without is_added (f x) ≡ g x) → items_without is_added (items_of (map f xs)) ≡ items_of (map g xs)
 items_stay f g [] each = refl
@@ -38,9 +39,9 @@ module _ (c : Clock) (h : History) (n : ℕ) (inside : (place : Option ℕ) → 
   shown_stays : (k : ℕ) → without is_added (task_shown (Some c) h (nested (Some c) h n) k) ≡ task_shown None h (nested None h n) k
   shown_stays k = on (task_told h k)
     where
-      on : (t : Option TaskTold) → without is_added (option_map_or (λ told. task_object told (Some (task_since c h told.task told.stage)) (nested (Some c) h n told.inner)) t null) ≡ option_map_or (λ told. task_object told None (nested None h n told.inner)) t null
+      on : (t : Option TaskTold) → without is_added (option_map_or (λ told. task_object told (Some (task_times c h told.task told.stage)) (nested (Some c) h n told.inner)) t null) ≡ option_map_or (λ told. task_object told None (nested None h n told.inner)) t null
       on None = refl
-      on (Some t) = task_stays t (task_since c h t.task t.stage) (nested (Some c) h n t.inner) (nested None h n t.inner) (inside t.inner)
+      on (Some t) = task_stays t (task_times c h t.task t.stage) (nested (Some c) h n t.inner) (nested None h n t.inner) (inside t.inner)
 
   one_stays : (s : ℕ) → without is_added (scope_shown (Some c) h (nested (Some c) h n) s) ≡ scope_shown None h (nested None h n) s
   one_stays s = on (info h s)

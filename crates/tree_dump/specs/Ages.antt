@@ -6,22 +6,25 @@ use Rattle.scope_rules.specs.declared.types.answers.Stage.{Stage}
 use Rattle.scope_rules.specs.declared.types.answers.Stage.TheVariants.{Waiting, Running, Finished}
 use Rattle.scope_rules.specs.declared.types.infos.ScopeInfo.{ScopeInfo}
 use Rattle.scope_rules.specs.History.{History}
+use Rattle.scope_rules.specs.Tasks.{is_finished}
 use Rattle.tree_dump.specs.declared.ages.Ages.{Ages}
+use Rattle.tree_dump.specs.declared.ages.TaskTimes.{TaskTimes}
 
--- the last reading of a clock, if it was read, and the readings as tasks were forked and started and as scopes were opened,
+-- the last reading of a clock, if it was read, and the readings as tasks were forked, started and ended and as scopes were opened,
 -- by number since the base
 pub record Clock : Type 0 where
   pub now : Option ℕ
   pub forked : List ℕ
   pub started : List ℕ
+  pub ended : List ℕ
   pub opened : List ℕ
 
 abbrev pub clock_of : Ages → Clock
-clock_of a = record { now = a.last; forked = a.forked.now; started = a.started.now; opened = a.opened.now }
+clock_of a = record { now = a.last; forked = a.forked.now; started = a.started.now; ended = a.ended.now; opened = a.opened.now }
 
 -- without readings
 abbrev pub no_clock : Clock
-no_clock = record { now = None; forked = []; started = []; opened = [] }
+no_clock = record { now = None; forked = []; started = []; ended = []; opened = [] }
 
 -- the reading for the number, of those behind `before`
 abbrev pub reading_in : List ℕ → ℕ → ℕ → Option ℕ
@@ -54,9 +57,12 @@ runs_or_ran Running = true
 runs_or_ran Finished = true
 runs_or_ran _ = false
 
--- the reading as task k started, if it runs or ran and the reading is known
-abbrev pub task_since : Clock → History → ℕ → Stage → Option ℕ
-task_since c h k stage = if runs_or_ran stage then reading_in c.started h.base.tasks k else None
+-- the readings as task k ended, if it finished, and started, if it runs or ran, each if the reading is known
+abbrev pub task_times : Clock → History → ℕ → Stage → TaskTimes
+task_times c h k stage = record {
+  ended = if is_finished stage then reading_in c.ended h.base.tasks k else None;
+  since = if runs_or_ran stage then reading_in c.started h.base.tasks k else None;
+}
 
 -- how late it is by now, if the deadline is past, and the scope is not joined
 abbrev pub late_by : Clock → Bool → Option ℕ → Option ℕ

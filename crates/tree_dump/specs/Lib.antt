@@ -1,4 +1,5 @@
 pub mod Ages
+pub mod Kept
 pub mod Objects
 pub mod Tree
 pub mod TreeParts

@@ -1,12 +1,16 @@
 -- The objects of a dump, member by member, in the order of their keys.
-use Rattle.std.specs.Prelude.{ℕ, Option, None, Some, codes}
+use Rattle.std.specs.Prelude.{ℕ, List, Option, None, Some, option_map, codes}
 use Rattle.scope_rules.specs.Names.{text_of}
-use Rattle.scope_rules.specs.Texts.{kind_word, stage_word, state_word}
+use Rattle.scope_rules.specs.Texts.{fault_text, kind_word, stage_word, state_word}
 use Rattle.scope_rules.specs.declared.types.answers.Cause.{Cause}
+use Rattle.scope_rules.specs.declared.types.answers.State.{State}
+use Rattle.scope_rules.specs.declared.types.answers.State.TheVariants.{Unavailable, Success, Failed}
 use Rattle.scope_rules.specs.declared.types.infos.ScopeInfo.{ScopeInfo}
+use Rattle.scope_rules.specs.declared.types.values.Value.TheVariants.{Num, Text}
 use Rattle.scope_log.specs.LogText.{joiner_text}
-use Rattle.serde_json.specs.Data.{Data, null, boolean, number, unsigned, string, array, object, Items, Members, member, no_members}
+use Rattle.serde_json.specs.Data.{Data, null, boolean, number, unsigned, negative, string, array, object, Items, Members, member, no_members}
 use Rattle.tree_dump.specs.Words.{expiry_word, scope_stage_word}
+use Rattle.tree_dump.specs.declared.ages.TaskTimes.{TaskTimes}
 use Rattle.tree_dump.specs.declared.told.TaskTold.{TaskTold}
 
 -- a moment, if there is one
@@ -21,10 +25,21 @@ cause_or_null (Some cause) =
     object (member (codes "by") (number (unsigned cause.scope))
     (member (codes "kind") (string (kind_word cause.kind)) no_members))
 
+-- a member more, if the dump tells times
+abbrev pub with_more : List ℕ → Option Data → Members → Members
+with_more key None rest = rest
+with_more key (Some value) rest = member key value rest
+
 -- since when, if the dump tells times: a reading of the clock, or null
 abbrev pub with_since : Option (Option ℕ) → Members → Members
-with_since None rest = rest
-with_since (Some reading) rest = member (codes "since") (number_or_null reading) rest
+with_since since rest = with_more (codes "since") (option_map number_or_null since) rest
+
+-- what can be read of a task: its value, a number or a text, or its fault, or null
+abbrev pub result_data : State → Data
+result_data Unavailable = null
+result_data (Success (Num n)) = number (negative n)
+result_data (Success (Text name)) = string (text_of name)
+result_data (Failed fault) = string (fault_text fault)
 
 -- a scope, of what there is to say of it, since when it is open, what lies inside it, and its tasks
 unfoldable pub scope_object : ScopeInfo → Option (Option ℕ) → Data → Items → Data
@@ -42,12 +57,14 @@ scope_object info since inner tasks =
     (member (codes "stage") (string (scope_stage_word info.stage))
     (member (codes "tasks") (array tasks) no_members))))))))))))
 
--- a task, of what there is to say of it, since when it runs or ran, and what lies inside it
-unfoldable pub task_object : TaskTold → Option (Option ℕ) → Data → Data
-task_object told since inner =
-    object (member (codes "id") (number (unsigned told.task))
+-- a task, of what there is to say of it, when it started and ended, and what lies inside it
+unfoldable pub task_object : TaskTold → Option TaskTimes → Data → Data
+task_object told times inner =
+    object (with_more (codes "ended") (option_map (λ t. number_or_null t.ended) times)
+    (member (codes "id") (number (unsigned told.task))
     (member (codes "inner") inner
     (member (codes "name") (string (text_of told.label.name))
-    (with_since since
+    (with_more (codes "result") (option_map (λ t. result_data told.state) times)
+    (with_since (option_map (λ t. t.since) times)
     (member (codes "stage") (string (stage_word told.stage))
-    (member (codes "state") (string (state_word told.state)) no_members))))))
+    (member (codes "state") (string (state_word told.state)) no_members))))))))

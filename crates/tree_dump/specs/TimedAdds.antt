@@ -9,7 +9,7 @@ use Rattle.tree_dump.specs.Tree.{dump_data}
 
 -- the key of a member that the second format adds
 abbrev pub is_added : List ℕ → Bool
-is_added key = bytes_eq key (codes "format") || bytes_eq key (codes "limits") || bytes_eq key (codes "now") || bytes_eq key (codes "since") || bytes_eq key (codes "used")
+is_added key = bytes_eq key (codes "ended") || bytes_eq key (codes "format") || bytes_eq key (codes "limits") || bytes_eq key (codes "now") || bytes_eq key (codes "result") || bytes_eq key (codes "since") || bytes_eq key (codes "used")
 
 -- a value without the members of such keys, and so each value inside it
 abbrev mutual

@@ -1,4 +1,4 @@
--- The tree of the scopes that are not closed, as JSON. With a clock each scope and each task has a member more: since when.
+-- The tree of the scopes that are not closed, as JSON. With a clock each scope has a member more, and each task has three.
 use Rattle.std.specs.Prelude.{ℕ, zero, suc, List, map, Option, None, option_map, codes}
 use Rattle.std.specs.Option.{option_map_or}
 use Rattle.scope_rules.specs.History.{History, moment}
@@ -7,7 +7,7 @@ use Rattle.scope_rules.specs.Tasks.{stage, state}
 use Rattle.serde_json.specs.Data.{Data, null, number, unsigned, object, Items, member, no_members}
 use Rattle.serde_json.specs.View.{items_of}
 use Rattle.serde_json.specs.Written.{compact_text}
-use Rattle.tree_dump.specs.Ages.{Clock, scope_since, task_since}
+use Rattle.tree_dump.specs.Ages.{Clock, scope_since, task_times}
 use Rattle.tree_dump.specs.Objects.{scope_object, task_object}
 use Rattle.tree_dump.specs.declared.told.TaskTold.{TaskTold}
 
@@ -17,7 +17,7 @@ task_told h k = option_map (λ l. record { task = k; label = l; stage = stage h 
 
 -- task k, with what `inside` tells of the scope inside it
 abbrev pub task_shown : Option Clock → History → (Option ℕ → Data) → ℕ → Data
-task_shown by h inside k = option_map_or (λ told. task_object told (option_map (λ c. task_since c h told.task told.stage) by) (inside told.inner)) (task_told h k) null
+task_shown by h inside k = option_map_or (λ told. task_object told (option_map (λ c. task_times c h told.task told.stage) by) (inside told.inner)) (task_told h k) null
 
 -- the tasks of scope s, in fork order
 abbrev pub tasks_shown : Option Clock → History → (Option ℕ → Data) → ℕ → Items

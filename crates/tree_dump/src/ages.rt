@@ -1,7 +1,7 @@
 //! How long tasks run and scopes are open, by a clock.
 ghost use Rattle.std.specs.Prelude.{◌≡◌, Some, option_map};
 ghost use Rattle.std.specs.Option.{option_and_then};
-ghost use Rattle.tree_dump.specs.Ages.{aged_text, clock_of, due_in, duration_text, for_text, late_by, late_text, no_clock, open_text, reading_in, runs_or_ran, scope_age, scope_late, scope_since, since, task_age, task_reading, task_since};
+ghost use Rattle.tree_dump.specs.Ages.{aged_text, clock_of, due_in, duration_text, for_text, late_by, late_text, no_clock, open_text, reading_in, runs_or_ran, scope_age, scope_late, scope_since, since, task_age, task_reading, task_times};
 
 use scope_checks::Readings;
 use scope_rules::types::infos::ScopeInfo;
@@ -17,6 +17,8 @@ pub struct Ages<'a> {
     pub forked: &'a [u32],
     /// By task since the last retirement, the reading as it started.
     pub started: &'a [u32],
+    /// By task since the last retirement, the reading as it ended.
+    pub ended: &'a [u32],
     /// By scope since the last retirement, the reading as it was opened.
     pub opened: &'a [u32],
 }
@@ -30,6 +32,7 @@ impl<'a> Ages<'a> {
             last: None,
             forked: &[],
             started: &[],
+            ended: &[],
             opened: &[],
         }
     }
@@ -115,22 +118,34 @@ fn runs_or_ran(stage: Stage) -> bool
     matches!(stage, Stage::Running | Stage::Finished)
 }
 
-/// The reading as the task started, if it runs or ran and the reading is known. Without ages none is told.
-pub(crate) fn task_since<R: Readings>(
+/// The readings as a task started and ended, each if it did and the reading is known.
+#[derive(Clone, Copy)]
+pub(crate) struct TaskTimes {
+    pub(crate) ended: Option<u32>,
+    pub(crate) since: Option<u32>,
+}
+
+/// When the task started, if it runs or ran, and when it ended. Without ages none is told.
+pub(crate) fn task_times<R: Readings>(
     readings: &R,
     ages: Option<&Ages<'_>>,
     task: TaskId,
     stage: Stage,
-) -> Option<Option<u32>>
-    ensures { result ≡ option_map (λ c. task_since c (R.history readings.now) task stage) (option_map (λ a. clock_of a.now) ages.entry) }
+) -> Option<TaskTimes>
+    ensures { result ≡ option_map (λ c. task_times c (R.history readings.now) task stage) (option_map (λ a. clock_of a.now) ages.entry) }
 {
-    match ages {
-        Some(ages) if runs_or_ran(stage) => {
-            Some(reading_in(ages.started, readings.retired_tasks(), task))
-        }
-        Some(_) => Some(None),
-        None => None,
-    }
+    let ages = ages?;
+    let before = readings.retired_tasks();
+    let started = reading_in(ages.started, before, task);
+    let ended = reading_in(ages.ended, before, task);
+    Some(TaskTimes {
+        ended: if stage == Stage::Finished {
+            ended
+        } else {
+            None
+        },
+        since: if runs_or_ran(stage) { started } else { None },
+    })
 }
 
 /// How late it is by now, if the deadline is past and the scope is not joined.

@@ -20,7 +20,7 @@ pub fn retired()
 {}
 
 /// The second format of a dump is the first one with members more. Without them, `format`, `limits`, `now`, `used` and
-/// each `since`, its value is that of the first.
+/// each `ended`, `result` and `since`, its value is that of the first.
 pub fn timed_adds()
     ensures { TimedAdds }
 {}

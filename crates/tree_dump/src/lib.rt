@@ -26,8 +26,10 @@
 //!
 //! Each SCOPE and each TASK has a member `"since":T or null` before its stage. T is a reading of a clock, in milliseconds
 //! since the realm began. A scope's is the reading as it was opened. A task's is the reading as it started, if it runs or
-//! ran. `now` is the last reading. Each is null if the clock was not read. The limits are those of the realm. What counts
-//! against them are the load used, and the scopes and tasks since the last retirement.
+//! ran. Each TASK has a member `"ended":T or null` before its number, the reading as it finished, if it did, and a member
+//! `"result":V or null` behind its name. V is its value, a number or a text, or the name of its fault, as its state says;
+//! null, if its end can't be read. `now` is the last reading. Each T is null if the clock was not read. The limits are those
+//! of the realm. What counts against them are the load used, and the scopes and tasks since the last retirement.
 //!
 //! The text for a terminal has a line with the moment, and then a line for each scope that is not closed and for each
 //! of its tasks, indented by two spaces a level:
@@ -48,7 +50,7 @@
 //! AGE is in milliseconds, as `9 ms`, or from a second on in seconds with tenths, as `3.2 s`. T is the last reading of a
 //! clock, in milliseconds. An age is T less the reading as the scope was opened, or as the task started, if it runs, or was
 //! forked, if it waits. A deadline of a scope that is not joined comes in as long as it is later than T, or else the scope is
-//! late by as long as it is past. Only `tree_with` shows ages, if it is handed such readings.
+//! late by as long as it is past. Only `tree_with` and `tree_at` show ages, by such readings.
 //!
 //! The first scope is main's outermost one. Under a scope stand its tasks, in fork order; under a task its own
 //! outermost scope; and behind a scope's tasks, as deep as they, the next scope that its owner opened and has not
@@ -65,6 +67,7 @@
 
 mod ages;
 mod book;
+mod kept;
 pub mod laws;
 mod members;
 mod parts;
@@ -77,6 +80,7 @@ mod words;
 
 pub use ages::Ages;
 pub use book::dump;
+pub use kept::{KeptAges, tree_at};
 pub use parts::{Sums, TreePart, tree_part};
 pub use text_walk::{tree_of, tree_with};
 pub use timed::timed_dump;

@@ -1,13 +1,14 @@
 //! The members of a dump's objects, each as it is sent to a serializer: its key, and then its value.
-ghost use Rattle.std.specs.Prelude.{◌≡◌, ◌<◌, OnOk};
+ghost use Rattle.std.specs.Prelude.{◌≡◌, OnOk, codes, option_map};
 ghost use Rattle.serde_json.specs.Data.{boolean, number, unsigned, string};
 ghost use Rattle.serde_json.specs.Events.{SendsValue};
-ghost use Rattle.tree_dump.specs.Sent.{SendsMember, SendsSince, count_since};
-ghost use Rattle.tree_dump.specs.Objects.{number_or_null, cause_or_null};
+ghost use Rattle.tree_dump.specs.Sent.{SendsMember, SendsMore, SendsSince, scope_members, task_members};
+ghost use Rattle.tree_dump.specs.Objects.{cause_or_null, number_or_null, result_data};
 ghost use Rattle.scope_log.specs.LogText.{joiner_text};
 
+use crate::ages::TaskTimes;
 use crate::words::joiner_word;
-use scope_rules::{Cause, Policy};
+use scope_rules::{Cause, Policy, State, Value};
 use serde::Serializer;
 use std::alloc::Global;
 
@@ -50,7 +51,17 @@ pub(crate) fn send_time<S: Serializer>(
     }
 }
 
-/// Sends the member that says since when, if that is told: a reading in milliseconds, or null.
+/// Sends a member that is a reading of a clock in milliseconds, or null.
+fn send_reading<S: Serializer>(out: &mut S, key: &str, reading: Option<u32>) -> Result<(), S::Error>
+    ensures { OnOk result (SendsMember key.now (number_or_null reading) (S.written out.old) (S.written out.new)) }
+{
+    match reading {
+        None => send_time(out, key, None),
+        Some(reading) => send_time(out, key, Some(u64::from(reading))),
+    }
+}
+
+/// Sends the member that says since when, if that is told.
 pub(crate) fn send_since<S: Serializer>(
     out: &mut S,
     since: Option<Option<u32>>,
@@ -59,20 +70,75 @@ pub(crate) fn send_since<S: Serializer>(
 {
     match since {
         None => Ok(()),
-        Some(None) => send_time(out, "since", None),
-        Some(Some(reading)) => send_time(out, "since", Some(u64::from(reading))),
+        Some(reading) => send_reading(out, "since", reading),
     }
 }
 
-/// How many members there are, of so many others.
-pub(crate) fn count_since(since: Option<Option<u32>>, others: usize) -> usize
-    requires { others < 16 }
-    ensures { result ≡ count_since since others }
+/// Sends the member that says when a task started, if times are told.
+pub(crate) fn send_started<S: Serializer>(
+    out: &mut S,
+    times: Option<TaskTimes>,
+) -> Result<(), S::Error>
+    ensures { OnOk result (SendsSince (option_map (λ t. t.since) times) (S.written out.old) (S.written out.new)) }
 {
-    match since {
-        None => others,
-        Some(_) => others + 1,
+    match times {
+        None => Ok(()),
+        Some(times) => send_since(out, Some(times.since)),
     }
+}
+
+/// Sends the member that says when a task ended, if times are told.
+pub(crate) fn send_ended<S: Serializer>(
+    out: &mut S,
+    times: Option<TaskTimes>,
+) -> Result<(), S::Error>
+    ensures { OnOk result (SendsMore (codes "ended") (option_map (λ t. number_or_null t.ended) times) (S.written out.old) (S.written out.new)) }
+{
+    match times {
+        None => Ok(()),
+        Some(times) => send_reading(out, "ended", times.ended),
+    }
+}
+
+/// Sends what can be read of a task: its value, a number or a text, or its fault, or null.
+fn send_state<S: Serializer>(out: &mut S, state: State) -> Result<(), S::Error>
+    ensures { OnOk result (SendsValue (result_data state) (S.written out.old) (S.written out.new)) }
+{
+    match state {
+        State::Unavailable => out.unit(),
+        State::Success(Value::Num(number)) => out.i64(number),
+        State::Success(Value::Text(name)) => out.str(name.as_str()),
+        State::Failed(fault) => out.str(fault.0.as_str()),
+    }
+}
+
+/// Sends the member that says what can be read of a task, if times are told.
+pub(crate) fn send_result<S: Serializer>(
+    out: &mut S,
+    times: Option<TaskTimes>,
+    state: State,
+) -> Result<(), S::Error>
+    ensures { OnOk result (SendsMore (codes "result") (option_map (λ t. result_data state) times) (S.written out.old) (S.written out.new)) }
+{
+    if times.is_none() {
+        return Ok(());
+    }
+    out.key("result")?;
+    send_state(out, state)
+}
+
+/// How many members a scope's object has.
+pub(crate) fn scope_members(since: Option<Option<u32>>) -> usize
+    ensures { result ≡ scope_members since }
+{
+    if since.is_some() { 12 } else { 11 }
+}
+
+/// How many members a task's object has.
+pub(crate) fn task_members(times: Option<TaskTimes>) -> usize
+    ensures { result ≡ task_members times }
+{
+    if times.is_some() { 8 } else { 5 }
 }
 
 /// Sends the object of a cause.

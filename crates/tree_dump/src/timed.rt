@@ -97,9 +97,9 @@ impl<R: Readings> Serialize for TimedTree<'_, R> {
     }
 }
 
-/// The tree of what was read, as JSON without blanks, in the second format: with since when each scope is open and each
-/// task runs or ran, the last reading of the clock, the limits, and what counts against them. It is refused for memory
-/// alone.
+/// The tree of what was read, as JSON without blanks, in the second format: with since when each scope is open, when each
+/// task started and ended and what it gave, the last reading of the clock, the limits, and what counts against them. It is
+/// refused for memory alone.
 pub fn timed_dump<R: Readings>(
     alloc: Global,
     readings: &R,

@@ -8,9 +8,10 @@ ghost use Rattle.serde_json.specs.Events.{SendsValue};
 ghost use Rattle.tree_dump.specs.Ages.{clock_of};
 ghost use Rattle.tree_dump.specs.Tree.{nested, task_shown, tasks_shown, dump_data, dump_text};
 
-use crate::ages::{Ages, scope_since, task_since};
+use crate::ages::{Ages, scope_since, task_times};
 use crate::members::{
-    count_since, send_cause, send_flag, send_joiner, send_number, send_since, send_text, send_time,
+    scope_members, send_cause, send_ended, send_flag, send_joiner, send_number, send_result,
+    send_since, send_started, send_text, send_time, task_members,
 };
 use crate::told::{TaskTold, info_at, task_told};
 use crate::words::{expiry_word, scope_stage_word};
@@ -24,7 +25,8 @@ use std::alloc::{AllocError, Global};
 pub(crate) const LEVELS: u8 = 16;
 
 /// Sends what stands where the scope may lie: the scope with what lies inside it, down to so many levels, or null. With
-/// ages each scope and each task has a member more: since when it is open, or runs or ran.
+/// ages each scope has a member more, since when it is open, and each task three: when it started, when it ended, and what it
+/// gave.
 #[cycle(send_scope)]
 pub(crate) fn send_scope<R: Readings, S: Serializer>(
     readings: &R,
@@ -43,7 +45,7 @@ pub(crate) fn send_scope<R: Readings, S: Serializer>(
         return out.unit();
     };
     let since = scope_since(readings, ages, info.scope);
-    out.begin_map(Some(count_since(since, 11)))?;
+    out.begin_map(Some(scope_members(since)))?;
     send_cause(out, "cause", info.cause)?;
     send_time(out, "deadline", info.deadline)?;
     send_text(out, "expiry", expiry_word(info.expiry))?;
@@ -120,13 +122,15 @@ fn send_task<R: Readings, S: Serializer>(
     let Some(told) = task_told(readings, task) else {
         return out.unit();
     };
-    let since = task_since(readings, ages, told.task, told.stage);
-    out.begin_map(Some(count_since(since, 5)))?;
+    let times = task_times(readings, ages, told.task, told.stage);
+    out.begin_map(Some(task_members(times)))?;
+    send_ended(out, times)?;
     send_number(out, "id", told.task)?;
     out.key("inner")?;
     send_scope(readings, ages, alloc, out, levels, told.inner)?;
     send_text(out, "name", told.label.name.as_str())?;
-    send_since(out, since)?;
+    send_result(out, times, told.state)?;
+    send_started(out, times)?;
     send_text(out, "stage", told.stage.word())?;
     send_text(out, "state", told.state.word())?;
     out.end_map()

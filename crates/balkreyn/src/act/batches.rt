@@ -1,48 +1,32 @@
 //! Many typed jobs, of which so many run at a time.
 ghost use Rattle.std.specs.Prelude.{◌≡◌, ◌⊎◌, All, Err, IfOk, MatchResult, length, max, pos};
+ghost use Rattle.balkreyn.specs.Coming.{MayCome};
 ghost use Rattle.scope_rules.specs.declared.types.joiners.Policy.TheVariants as policy;
 ghost use Rattle.scope_rules.specs.declared.types.refusals.Refusal.TheVariants.{Memory};
 ghost use Rattle.scope_rules.specs.declared.types.values.Value.TheVariants as value;
 ghost use Rattle.std.specs.Arc.{arc_value};
 ghost use Rattle.balkreyn.specs.Acting.{ClosesNow};
 ghost use Rattle.balkreyn.specs.Bodies.{Opens};
-ghost use Rattle.balkreyn.specs.Together.{Forked, Maps, RunsJobs, StopsStaffing};
+ghost use Rattle.balkreyn.specs.Together.{Forked, GivesEach, Maps, RunsJobs, StopsStaffing};
 
 use crate::act::blocks::entered;
+use crate::act::came::{Came, came_of};
 use crate::act::contexts::Acts;
 use crate::act::tasks::Task;
 use crate::act::valued::TypedTask;
-use crate::jobs::{JobError, Yields};
+use crate::jobs::Yields;
 use crate::places::Place;
 use join_rules::Joiner;
-use scope_rules::{End, Fault, Name, Options, Outcome, Refusal, ScopeId, Value};
+use realm_lock::Mark;
+use scope_rules::{End, Fault, Name, Options, Refusal, ScopeId, Value};
 use std::alloc::Global;
-use std::sync::{Arc, Mutex, Wait};
+use std::sync::{Arc, Mutex};
 
-/// The jobs that no worker has taken, the first of them last, where each puts its value, and the error of the first that
-/// failed.
+/// The jobs that no worker has taken, the first of them last, and where each leaves what it came to.
 #[derive(Drop)]
 struct Batch<J: Yields> {
     jobs: Mutex<Vec<(usize, J)>>,
     places: Vec<Place<J>>,
-    error: Mutex<Option<J::Error>>,
-}
-
-impl<J: Yields> Batch<J> {
-    /// Keeps the error, if it is the first, and gives the fault of the worker whose job failed so.
-    fn fail<R: Wait>(&self, rt: &R, name: Name, error: J::Error) -> Fault {
-        let fault = error.fault(name);
-        let mut first = self.error.lock(rt);
-        if first.is_none() {
-            *first = Some(error);
-        }
-        fault
-    }
-
-    /// The error of the first that failed, if it is still there.
-    fn first_error<R: Wait>(&self, rt: &R) -> Option<J::Error> {
-        self.error.lock(rt).take()
-    }
 }
 
 /// What does one job of a batch after the other, until there is none left, or one fails. It is a job of the service,
@@ -78,12 +62,12 @@ impl<J: Yields + Drop> Worker<J> {
             let Some((place, job)) = self.batch.jobs.lock(cx).pop() else {
                 return Ok(Value::Num(0));
             };
-            let value = match job.run_typed(cx, self.name) {
-                Ok(value) => value,
-                Err(error) => return Err(self.batch.fail(cx, self.name, error)),
-            };
+            let found = job.run_typed(cx, self.name);
             if let Some(place) = self.batch.places.get(place) {
-                place.put(cx, self.name, value);
+                match found {
+                    Ok(value) => place.put(cx, self.name, value),
+                    Err(error) => return Err(place.fail(cx, self.name, error)),
+                }
             }
         }
         Ok(Value::Num(0))
@@ -97,20 +81,22 @@ impl<J: Yields + TypedTask<Worker<J>> + Drop> Task for Worker<J> {
     }
 }
 
-/// Runs all these jobs in a scope of their own, so many at a time, in order, and gives the value of each (Trio, a
-/// `CapacityLimiter` in a nursery). The first that fails ends it, and its error is given: then no job begins any more.
+/// Runs all these jobs in a scope of their own, so many at a time, in order, and gives what came of each (Trio, a
+/// `CapacityLimiter` in a nursery). The first that fails ends it: then no job begins any more, and those that were cut off,
+/// or never began, have the mark. `all_values` makes one answer of them.
 ///
 /// # Errors
-/// `NotSuccess` if a worker failed without an error of a job, `Unavailable` if a cancel or a deadline came first, and else
-/// the refusal of a call.
+/// The refusal of a call.
 pub fn map_at_most<J: Yields + Drop, W: From<Worker<J>>, X: Acts<W>>(
     cx: &mut X,
     name: Name,
     options: Options,
     at_once: u32,
     jobs: Vec<J>,
-) -> Result<Result<Vec<J::Value>, J::Error>, Refusal>
-    ensures { ((result ≡ Err Memory) × (cx.new ≡ cx.old)) ⊎ RunsJobs (Opens X.token X.left_by_open policy.AwaitOk options) (ClosesNow X.token X.left_by_close X.reads X.time) (λ scope begun ended found. Maps X.token X.reads X.time name (max at_once 1) (λ values. All (J.may_yield name) values.items × (length values.items ≡ length jobs.items)) scope begun ended found) cx.old cx.new result }
+) -> Result<Vec<Came<J::Value, J::Error>>, Refusal>
+where
+    J::Error: From<Refusal>,
+    ensures { ((result ≡ Err Memory) × (cx.new ≡ cx.old)) ⊎ RunsJobs (Opens X.token X.left_by_open policy.AwaitOk options) (ClosesNow X.token X.left_by_close X.reads X.time) (λ scope begun ended found. Maps X.token X.reads X.time name (max at_once 1) (λ after new cames. GivesEach X.token X.seat (J.may_yield name) ⟦<J::Error as From<Refusal>>⟧.from_gives (length jobs.items) after new cames.items) scope begun ended found) cx.old cx.new result }
 {
     let batch = batch_of(cx.alloc(), jobs)?;
     let scope = entered(cx, Joiner::AwaitOk, options)?;
@@ -119,27 +105,22 @@ pub fn map_at_most<J: Yields + Drop, W: From<Worker<J>>, X: Acts<W>>(
     found
 }
 
-/// Forks so many workers in the scope, joins it, and gives the values that they put, or the error of the first job that
-/// failed.
+/// Forks so many workers in the scope, joins it, and gives what they left of each job.
 fn mapped<J: Yields + Drop, W: From<Worker<J>>, X: Acts<W>>(
     cx: &mut X,
     scope: ScopeId,
     name: Name,
     workers: u32,
     batch: &Arc<Batch<J>, Global>,
-) -> Result<Result<Vec<J::Value>, J::Error>, Refusal>
-    ensures { Maps X.token X.reads X.time name workers (λ values. All (J.may_yield name) values.items × (length values.items ≡ length (arc_value batch.now).places.items)) scope cx.old cx.new result }
+) -> Result<Vec<Came<J::Value, J::Error>>, Refusal>
+where
+    J::Error: From<Refusal>,
+    ensures { Maps X.token X.reads X.time name workers (λ after new cames. GivesEach X.token X.seat (J.may_yield name) ⟦<J::Error as From<Refusal>>⟧.from_gives (length (arc_value batch.now).places.items) after new cames.items) scope cx.old cx.new result }
 {
     staffed(cx, scope, name, workers, batch)?;
-    let joined = cx.join(scope)?;
-    match &joined.outcome {
-        Outcome::Done => Ok(Ok(values_of(cx, name, batch)?)),
-        Outcome::Failed { .. } => match batch.first_error(cx) {
-            Some(error) => Ok(Err(error)),
-            None => Err(Refusal::NotSuccess),
-        },
-        _ => Err(Refusal::Unavailable),
-    }
+    cx.join(scope)?;
+    let mut shown = cx.checkpoint();
+    left_by(cx, name, batch, &mut shown)
 }
 
 /// Forks so many workers in the scope.
@@ -172,12 +153,7 @@ fn batch_of<J: Yields + Drop>(alloc: Global, jobs: Vec<J>) -> Result<Arc<Batch<J
     }
     left.reverse();
     let jobs = Mutex::new(left);
-    let error = Mutex::new(None);
-    let batch = Batch {
-        jobs,
-        places,
-        error,
-    };
+    let batch = Batch { jobs, places };
     Ok(Arc::new(alloc, batch)?)
 }
 
@@ -192,20 +168,21 @@ fn places_of<J: Yields>(alloc: Global, count: usize) -> Result<Vec<Place<J>>, Re
     Ok(places)
 }
 
-/// The values of a batch whose jobs have all ended.
-fn values_of<J: Yields, W, X: Acts<W>>(
+/// What the workers left of each job, in order, if this mark was shown behind the join.
+fn left_by<J: Yields, W, X: Acts<W>>(
     cx: &X,
     name: Name,
     batch: &Batch<J>,
-) -> Result<Vec<J::Value>, Refusal>
-    ensures { IfOk result (λ values. All (J.may_yield name) values.items × (length values.items ≡ length batch.now.places.items)) }
+    shown: &mut Option<Mark>,
+) -> Result<Vec<Came<J::Value, J::Error>>, Refusal>
+where
+    J::Error: From<Refusal>,
+    ensures { IfOk result (λ cames. All (MayCome (J.may_yield name) ⟦<J::Error as From<Refusal>>⟧.from_gives shown.old) cames.items × (length cames.items ≡ length batch.now.places.items)) }
 {
-    let mut values = Vec::new(cx.alloc());
+    let mut cames = Vec::new(cx.alloc());
     for place in batch.places.iter() {
-        match place.take(cx, name) {
-            Some(value) => values.push(value)?,
-            None => return Err(Refusal::Unavailable),
-        }
+        let answer = place.answer(cx, name);
+        cames.push(came_of(answer, shown))?;
     }
-    Ok(values)
+    Ok(cames)
 }

@@ -7,6 +7,7 @@ ghost use Rattle.balkreyn.specs.Acting.{ClosesNow, Retries, RunsBound, Sleeps};
 ghost use Rattle.balkreyn.specs.Bodies.{Opens, RunsWithin};
 
 use crate::act::contexts::Acts;
+use crate::scoped::settled;
 use join_rules::Joiner;
 use scope_rules::{Name, Options, Refusal, ScopeId, Value};
 
@@ -14,7 +15,7 @@ use scope_rules::{Name, Options, Refusal, ScopeId, Value};
 /// does.
 ///
 /// # Errors
-/// Those of `within`.
+/// Those of `within`. What `next_done` took needs no join.
 pub fn scope<
     W,
     X: Acts<W>,
@@ -23,12 +24,13 @@ pub fn scope<
     F: FnOnce(&mut X, ScopeId) -> Result<T, E>,
 >(cx: &mut X, joiner: Joiner, options: Options, body: F) -> Result<T, E>
     requires { F.IsAlwaysCallable body }
-    ensures { RunsWithin (Opens X.token X.left_by_open (policy_of joiner) options) (ClosesNow X.token X.left_by_close X.reads X.time) E.from_gives F.FnOnce body cx.old cx.new result }
+    ensures { RunsWithin (Opens X.token X.left_by_open (policy_of joiner) options) (ClosesNow X.token X.left_by_close X.reads X.time) (λ owes. Unit {0}) E.from_gives F.FnOnce body cx.old cx.new result }
 {
     let scope = cx.open(joiner, options)?;
     let found = body(cx, scope);
-    cx.close(scope)?;
-    found
+    let owes = cx.owes(scope);
+    let verdict = cx.close(scope)?;
+    settled(found, verdict, owes)
 }
 
 /// Opens a scope with a joiner that its caller names: the check passes none that is made in a generic call itself.
@@ -74,7 +76,7 @@ pub fn shielded<
     F: FnOnce(&mut X, ScopeId) -> Result<T, E>,
 >(cx: &mut X, body: F) -> Result<T, E>
     requires { F.IsAlwaysCallable body }
-    ensures { RunsWithin (Opens X.token X.left_by_open policy.AwaitAll (record { deadline = None; shield = true; expiry = Fail })) (ClosesNow X.token X.left_by_close X.reads X.time) E.from_gives F.FnOnce body cx.old cx.new result }
+    ensures { RunsWithin (Opens X.token X.left_by_open policy.AwaitAll (record { deadline = None; shield = true; expiry = Fail })) (ClosesNow X.token X.left_by_close X.reads X.time) (λ owes. Unit {0}) E.from_gives F.FnOnce body cx.old cx.new result }
 {
     scope(cx, Joiner::AwaitAll, Options::PLAIN.shielded(), body)
 }

@@ -1,7 +1,11 @@
 //! One value to act by: a task's context with the realm's time.
+ghost use Rattle.std.specs.Prelude.{◌≡◌};
 ghost use Rattle.realm_core.specs.Calls.{SeesMore};
+ghost use Rattle.job_runner.specs.Marks.{Shows, seat_here};
+ghost use Rattle.balkreyn.specs.Acting.{left_in};
 ghost use Rattle.balkreyn.specs.Slots.{ForksUnder};
 
+use crate::act::frames::Frames;
 use crate::act::hooks::{Happening, Observes, Shares};
 use crate::act::tasks::{Part, Task, Timed};
 use crate::act::told::Told;
@@ -15,8 +19,8 @@ use job_runner::{Clock, SystemClock, TaskCtx};
 use join_rules::Joiner;
 use realm_lock::{BellWait, Joined, Mark, RealmName};
 use scope_rules::{
-    AnyEnd, Base, Cancelling, CauseKind, ForkReply, Name, Options, Refusal, ScopeId, State, TaskId,
-    Value, Verdict,
+    AnyEnd, Base, Cancelling, CauseKind, Effective, ForkReply, Name, Options, Refusal, ScopeId,
+    State, TaskId, Value, Verdict,
 };
 use std::alloc::Global;
 use std::rt::Clock as SystemTime;
@@ -52,15 +56,16 @@ pub trait Acts<W>: Scopes + Wait {
     ghost use Rattle.scope_rules.specs.Replies.{base_of, binding_reply, result_reply};
     ghost use Rattle.scope_rules.specs.Table.{answering};
     ghost use Rattle.scope_rules.specs.Tasks.{state};
-    ghost use Rattle.share_ledger.specs.declared.steps.RealmStep.TheVariants.{Happened, Retirement};
+    ghost use Rattle.share_ledger.specs.declared.steps.Ask.TheVariants.{Move};
+    ghost use Rattle.share_ledger.specs.declared.steps.RealmStep.TheVariants.{Asked, Happened, Retirement};
     ghost use Rattle.cancel_marks.specs.Seats.{Seen};
     ghost use Rattle.realm_core.specs.Calls.{DoesOrMemory, Reads, RecordsOrMemory, SeesMore};
     ghost use Rattle.job_runner.specs.Marks.{Shows};
-    ghost use Rattle.balkreyn.specs.Acting.{ClosesNow, IsSoAfter, JoinsFrom, SleepsFor, WaitsRung};
+    ghost use Rattle.balkreyn.specs.Acting.{ClosesNow, IsNow, IsSoAfter, JoinsFrom, RemainsNow, SleepsFor, WaitsRung};
     ghost use Rattle.balkreyn.specs.Bodies.{Opens};
     ghost use Rattle.balkreyn.specs.Slots.{ForksUnder};
     ghost use Rattle.balkreyn.specs.Looks.{Says};
-    ghost use Rattle.balkreyn.specs.Times.{NotesNow, SaysWhenNow};
+    ghost use Rattle.balkreyn.specs.Times.{NotesNow, SaysAgesNow, SaysWhenNow};
     ghost use Rattle.tree_dump.specs.TextTree.{tree_text};
 
     /// The clock of the realm's time, as the prover sees it.
@@ -80,6 +85,10 @@ pub trait Acts<W>: Scopes + Wait {
 
     /// Where its memory comes from.
     fn alloc(&self) -> Global;
+
+    /// The realm's time, in milliseconds since the realm began (Trio, `current_time`).
+    fn now(&self) -> u64
+        ensures { IsNow Self.reads (Self.time self.now) result };
 
     /// Options with a deadline so many milliseconds from now; if it passes, the scope's outcome is a timeout
     /// (Trio, `fail_after`).
@@ -130,10 +139,29 @@ pub trait Acts<W>: Scopes + Wait {
         ensures sees { SeesMore (Self.token self.old) (Self.token self.new) }
         ensures answer { WaitsRung Self.reads Self.reading (Self.time self.old) (Self.token self.old) (Self.token self.new) (Self.seat self.old) (Self.seat self.new) result };
 
-    /// The mark of the scope that this task is in, once that is seen to be cancelled (Trio, a checkpoint).
+    /// The mark of the scope that this task is in, once that is seen to be cancelled (Trio, a checkpoint). Once the clock is
+    /// past the earliest deadline that the task knows, it passes the time, so it shows that deadline's mark; without a
+    /// deadline it reads no clock. Where a tick is refused, it looks without.
     fn checkpoint(&mut self) -> Option<Mark>
-        ensures token { Self.token self.new ≡ Self.token self.old }
+        ensures sees { SeesMore (Self.token self.old) (Self.token self.new) }
         ensures shows { Shows (Self.seat self.old) (Self.seat self.new) result };
+
+    /// Whether tasks that it forked in the scope were neither joined nor taken by `next_done`.
+    fn owes(&self, scope: ScopeId) -> bool;
+
+    /// Counts one of the scope's tasks as taken, so that no join is owed for it.
+    fn take_owed(&mut self, scope: ScopeId)
+        ensures token { Self.token self.new ≡ Self.token self.old };
+
+    /// How many milliseconds are left until the earliest deadline in effect for the scope: 0 once that is cancelled, and none
+    /// without a deadline (Trio, `current_effective_deadline`). It is the timeout for a call that blocks.
+    fn remaining(&mut self, scope: ScopeId) -> Result<Option<u64>, Refusal>
+        ensures { Reads (Self.token self.old) (Self.token self.new) (RemainsNow Self.reads (Self.time self.old) scope result) };
+
+    /// Sets the deadline of the scope anew, to this time of the realm in milliseconds, or takes it away (Trio: a cancel
+    /// scope's `deadline` may be set).
+    fn move_deadline(&mut self, scope: ScopeId, until: Option<u64>) -> Result<(), Refusal>
+        ensures { DoesOrMemory (Self.token self.old) (Self.token self.new) (Asked (Self.token self.old).actor (Move scope until)) (λ _. tt) result };
 
     /// Cancels the scope and all that it reaches (Trio, `cancel`).
     fn cancel(&mut self, scope: ScopeId) -> Result<Cancelling, Refusal>
@@ -163,6 +191,10 @@ pub trait Acts<W>: Scopes + Wait {
     fn note(&mut self, times: &mut Times) -> Result<(), Refusal>
         ensures { Reads (Self.token self.old) (Self.token self.new) (NotesNow Self.reads (Self.time self.old) times.old times.new result) };
 
+    /// The tree with ages by these times, as `InspectByToken::timed_tree`; `Memory` if there is none for it.
+    fn timed_tree(&mut self, times: &Times) -> Result<String, Refusal>
+        ensures { Reads (Self.token self.old) (Self.token self.new) (SaysAgesNow Self.reads (Self.time self.old) times.now.found.items result) };
+
     /// The journal with these times, as `Inspect::timed_journal`; `Memory` if there is none for it.
     fn timed_journal(&mut self, times: &Times) -> Result<String, Refusal>
         ensures { Reads (Self.token self.old) (Self.token self.new) (SaysWhenNow Self.reads (Self.time self.old) times.now.found.items result) };
@@ -190,16 +222,18 @@ pub struct Cx<'a, K, O, S: Spawner<N>, N: RealmName> {
     pub(crate) clock: SystemClock<K>,
     pub(crate) hooks: &'a Shares<O>,
     pub(crate) told: Told,
+    pub(crate) frames: Frames,
     pub(crate) ctx: &'a mut TaskCtx<AnyEnd, S, N>,
 }
 
 impl<'a, K, O, S: Spawner<N>, N: RealmName> Cx<'a, K, O, S, N> {
-    /// This context, with its realm's clock, its service's hooks, and what its task told.
+    /// This context, with its realm's clock, its service's hooks, what its task told, and the scopes around it.
     pub(crate) fn new(
         alloc: Global,
         clock: SystemClock<K>,
         hooks: &'a Shares<O>,
         told: Told,
+        frames: Frames,
         ctx: &'a mut TaskCtx<AnyEnd, S, N>,
     ) -> Cx<'a, K, O, S, N> {
         Cx {
@@ -207,6 +241,7 @@ impl<'a, K, O, S: Spawner<N>, N: RealmName> Cx<'a, K, O, S, N> {
             clock,
             hooks,
             told,
+            frames,
             ctx,
         }
     }
@@ -214,15 +249,33 @@ impl<'a, K, O, S: Spawner<N>, N: RealmName> Cx<'a, K, O, S, N> {
 
 impl<K: Handle, O: Observes, S: Spawner<N>, N: RealmName> Cx<'_, K, O, S, N> {
     /// Calls the observer about it.
-    fn report(&self, what: Happening) {
+    pub(crate) fn report(&self, what: Happening) {
         let mut clock = self.clock;
-        self.hooks.observer.saw(&clock.runtime(), clock.now(), what);
+        self.hooks.saw(&clock.runtime(), clock.now(), what);
     }
 
     /// The same, if there are any news.
     fn report_news(&self, news: Option<Happening>) {
         if let Some(what) = news {
             self.report(what);
+        }
+    }
+
+    /// The mark that is shown, if there is one; each deadline that has come is passed first, if one has that is known.
+    fn looked(&mut self) -> Option<Mark>
+        ensures sees { SeesMore self.old.ctx.now.token self.new.ctx.now.token }
+        ensures shows { Shows (seat_here self.old.ctx.now.around self.old.ctx.now.opened.items) (seat_here self.new.ctx.now.around self.new.ctx.now.opened.items) result }
+    {
+        let mut clock = self.clock;
+        let Some(now) = self.frames.come(&mut clock) else {
+            return self.ctx.checkpoint();
+        };
+        match self.ctx.sleep_by(&clock.runtime(), &mut clock, now) {
+            Ok(found) => {
+                self.frames.passed(now);
+                found
+            }
+            Err(_refusal) => self.ctx.checkpoint(),
         }
     }
 
@@ -241,13 +294,14 @@ impl<K: Handle, O: Observes, S: Spawner<N>, N: RealmName> Cx<'_, K, O, S, N> {
         let (alloc, clock) = (self.alloc, self.clock);
         match self.hooks.begin() {
             Ok((one, hooks)) => {
-                let (one, job) = (Some(one), Part::Own(job));
+                let job = Part::Own(job);
                 let timed = Timed {
                     alloc,
                     clock,
                     hooks,
                     one,
                     scope,
+                    deadline: self.frames.next(),
                     name,
                     job,
                 };
@@ -313,6 +367,11 @@ impl<K: Handle, O: Observes, N: RealmName, W: Task, S: CanFork<AnyEnd, N, Timed<
         self.alloc
     }
 
+    fn now(&self) -> u64 {
+        let mut clock = self.clock;
+        clock.now()
+    }
+
     fn fail_after(&self, millis: u64) -> Options {
         let mut clock = self.clock;
         Options::by(clock.now().saturating_add(millis))
@@ -324,20 +383,24 @@ impl<K: Handle, O: Observes, N: RealmName, W: Task, S: CanFork<AnyEnd, N, Timed<
     }
 
     fn open(&mut self, joiner: Joiner, options: Options) -> Result<ScopeId, Refusal> {
-        let rt = self.clock.runtime();
-        self.open_scope(&rt, joiner, options)
+        let (rt, deadline) = (self.clock.runtime(), options.deadline);
+        let found = self.open_scope(&rt, joiner, options);
+        self.frames.opened(&found, deadline);
+        found
     }
 
     fn close(&mut self, scope: ScopeId) -> Result<Verdict, Refusal> {
         let mut clock = self.clock;
         let found = self.close_opened_by(&clock.runtime(), scope, &mut clock);
         self.told.closed(scope, &found);
+        self.frames.closed(scope, &found);
         found
     }
 
     fn fork(&mut self, scope: ScopeId, name: Name, job: W) -> Result<ForkReply, Refusal> {
         let found = self.fork_counted(scope, name, job);
-        self.hooks.load.count(found.is_ok());
+        self.hooks.count(found.is_ok());
+        self.frames.forked(scope, &found);
         match found {
             Ok(_reply) => self.report(Happening::Forked { name, scope }),
             Err(refusal) => self.report(Happening::Refused {
@@ -352,6 +415,7 @@ impl<K: Handle, O: Observes, N: RealmName, W: Task, S: CanFork<AnyEnd, N, Timed<
     fn join(&mut self, scope: ScopeId) -> Result<Joined, Refusal> {
         let mut clock = self.clock;
         let found = self.ctx.join_by(&clock.runtime(), scope, &mut clock);
+        self.frames.joined(scope, &found);
         let news = self.told.by_join(&found);
         self.report_news(news);
         found
@@ -384,9 +448,30 @@ impl<K: Handle, O: Observes, N: RealmName, W: Task, S: CanFork<AnyEnd, N, Timed<
     }
 
     fn checkpoint(&mut self) -> Option<Mark> {
-        let found = self.ctx.checkpoint();
+        let found = self.looked();
         let news = self.told.by_mark(&found);
         self.report_news(news);
+        found
+    }
+
+    fn owes(&self, scope: ScopeId) -> bool {
+        self.frames.owes(scope)
+    }
+
+    fn take_owed(&mut self, scope: ScopeId) {
+        self.frames.took(scope);
+    }
+
+    fn remaining(&mut self, scope: ScopeId) -> Result<Option<u64>, Refusal> {
+        let mut clock = self.clock;
+        let now = clock.now();
+        let found = self.ctx.effective_deadline(&clock.runtime(), scope);
+        left_in(now, found)
+    }
+
+    fn move_deadline(&mut self, scope: ScopeId, until: Option<u64>) -> Result<(), Refusal> {
+        let found = self.ctx.move_deadline(&self.clock.runtime(), scope, until);
+        self.frames.moved(scope, until, &found);
         found
     }
 
@@ -425,10 +510,28 @@ impl<K: Handle, O: Observes, N: RealmName, W: Task, S: CanFork<AnyEnd, N, Timed<
         times.note(reached, clock.now())
     }
 
+    fn timed_tree(&mut self, times: &Times) -> Result<String, Refusal> {
+        let mut clock = self.clock;
+        let now = clock.now();
+        let rt = clock.runtime();
+        self.ctx.timed_tree(&rt, self.alloc, times, now)
+    }
+
     fn timed_journal(&mut self, times: &Times) -> Result<String, Refusal> {
         let mut clock = self.clock;
         let now = clock.now();
         let rt = clock.runtime();
         self.ctx.timed_journal(&rt, self.alloc, times, now)
+    }
+}
+
+/// How many milliseconds are left then until the deadline that was found, if there is one.
+fn left_in(now: u64, found: Result<Effective, Refusal>) -> Result<Option<u64>, Refusal>
+    ensures { result ≡ left_in now found }
+{
+    match found? {
+        Effective::Past => Ok(Some(0)),
+        Effective::At(until) => Ok(Some(until.saturating_sub(now))),
+        Effective::Never => Ok(None),
     }
 }

@@ -1,9 +1,10 @@
 //! What a service is run with beside its threads: who observes it, what it may have at hand, and its stop.
 
 ghost use Rattle.std.specs.Arc.{arc_value};
-ghost use Rattle.std.specs.Prelude.{◌≡◌, ◌<◌, IfOk, IfSome, MatchResult};
+ghost use Rattle.std.specs.Prelude.{◌≡◌, ◌<◌, IfOk, IfSome, IsSomeAnd, MatchResult, option_map};
 ghost use Rattle.scope_rules.specs.declared.types.refusals.Refusal.TheVariants.{Memory};
 
+use crate::act::requests::Lost;
 use crate::act::stops::Stop;
 use crate::act::watches::Watch;
 use scope_rules::{CauseKind, Fault, Name, Refusal, ScopeId};
@@ -57,6 +58,11 @@ pub enum Happening {
     Ended {
         name: Name,
         fault: Option<Fault>,
+    },
+    /// A request of `serve_requests` wasn't answered. Its source is told, too.
+    Lost {
+        name: Name,
+        why: Lost,
     },
     /// The scope itself was cancelled, by this; the scopes inside, which that reaches, aren't reported. `Observes` says who
     /// reports it, and when.
@@ -126,10 +132,10 @@ impl Observes for () {
 ///     let hooks = Hooks {
 ///         stop: None,
 ///         watch: None,
-///         load: Arc::try_clone(&load)?,
-///         observer: Arc::try_clone(&observer)?,
+///         load: Some(Arc::try_clone(&load)?),
+///         observer: Some(Arc::try_clone(&observer)?),
 ///     };
-///     let served = serve_with::<Lasts, Counts, Three, R>(rt, alloc, 2, hooks, Three);
+///     let served = serve::<Lasts, Counts, Three, R>(rt, alloc, 2, hooks, Three);
 ///     let wanted = matches!(served, Ok((None, None, Some(Refusal::Memory))));
 ///     let counted = (load.at_hand(), load.forked(), load.refused());
 ///     Ok((observer.all(), counted, wanted))
@@ -211,16 +217,15 @@ impl Drop for AtHand {
 
 /// The hooks of a service. Who looks at the counters, or asks for the stop, has a share of its own.
 ///
-/// A stop, a watch, no cap and no observer:
+/// A stop and a watch, and nothing else:
 ///
 /// ```rust
 /// fn hooks_of(io: HostRuntime, stop: Arc<Stop, Global>) -> Result<Hooks<()>, Refusal> {
-///     let alloc = io.alloc();
 ///     Ok(Hooks {
 ///         stop: Some(stop),
 ///         watch: Some(watch_of(io, "stopped-tree", 2, 60)?),
-///         load: Arc::new(alloc, Load::at_most(u64::MAX))?,
-///         observer: Arc::new(alloc, ())?,
+///         load: None,
+///         observer: None,
 ///     })
 /// }
 /// ```
@@ -230,38 +235,90 @@ pub struct Hooks<O> {
     pub stop: Option<Arc<Stop, Global>>,
     /// What watches it from its begin to its end, if anything does.
     pub watch: Option<Watch>,
-    /// Its counters, and its cap.
-    pub load: Arc<Load, Global>,
-    /// Who observes it.
-    pub observer: Arc<O, Global>,
+    /// Its counters, and its cap, if it has any.
+    pub load: Option<Arc<Load, Global>>,
+    /// Who observes it, if somebody does.
+    pub observer: Option<Arc<O, Global>>,
+}
+
+impl Hooks<()> {
+    /// No hooks: such a service ends by itself.
+    pub fn none() -> Hooks<()> {
+        Hooks {
+            stop: None,
+            watch: None,
+            load: None,
+            observer: None,
+        }
+    }
 }
 
 /// What each job of a service has of its hooks.
 #[derive(Drop)]
 pub(crate) struct Shares<O> {
-    pub(crate) load: Arc<Load, Global>,
-    pub(crate) observer: Arc<O, Global>,
+    pub(crate) load: Option<Arc<Load, Global>>,
+    pub(crate) observer: Option<Arc<O, Global>>,
 }
 
 impl<O: Drop> Shares<O> {
     /// The same for one more.
     pub(crate) fn share(&self) -> Result<Shares<O>, AllocError>
-        ensures { IfOk result (λ other. (arc_value other.load ≡ arc_value self.now.load) × (arc_value other.observer ≡ arc_value self.now.observer)) }
+        ensures { IfOk result (λ other. (option_map arc_value other.load ≡ option_map arc_value self.now.load) × (option_map arc_value other.observer ≡ option_map arc_value self.now.observer)) }
     {
         Ok(Shares {
-            load: Arc::try_clone(&self.load)?,
-            observer: Arc::try_clone(&self.observer)?,
+            load: share_of(&self.load)?,
+            observer: share_of(&self.observer)?,
         })
     }
 
     /// One more job at hand, if there may be one, and its shares.
-    pub(crate) fn begin(&self) -> Result<(AtHand, Shares<O>), Refusal>
-        ensures { MatchResult result (λ begun. (0 < (arc_value self.now.load).most) × (arc_value begun.0.load ≡ arc_value self.now.load) × (arc_value begun.1.observer ≡ arc_value self.now.observer)) (λ refusal. refusal ≡ Memory) }
+    pub(crate) fn begin(&self) -> Result<(Option<AtHand>, Shares<O>), Refusal>
+        ensures counted { IfOk result (λ begun. IfSome self.now.load (λ load. IsSomeAnd begun.0 (λ one. (0 < (arc_value load).most) × (arc_value one.load ≡ arc_value load)))) }
+        ensures shared { MatchResult result (λ begun. option_map arc_value begun.1.observer ≡ option_map arc_value self.now.observer) (λ refusal. refusal ≡ Memory) }
     {
         let shares = self.share()?;
-        match Load::begin(&self.load)? {
-            Some(one) => Ok((one, shares)),
-            None => Err(Refusal::Memory),
+        match &self.load {
+            None => Ok((None, shares)),
+            Some(load) => match Load::begin(load)? {
+                Some(one) => Ok((Some(one), shares)),
+                None => Err(Refusal::Memory),
+            },
         }
+    }
+
+    /// Counts what a fork came to.
+    pub(crate) fn count(&self, is_forked: bool) {
+        if let Some(load) = &self.load {
+            load.count(is_forked);
+        }
+    }
+}
+
+impl<O: Observes> Shares<O> {
+    /// Whether somebody observes.
+    pub(crate) fn is_observed(&self) -> bool {
+        match &self.observer {
+            Some(observer) => observer.is_there(),
+            None => false,
+        }
+    }
+
+    /// Calls the observer about it, if somebody observes.
+    pub(crate) fn saw<R: Wait>(&self, rt: &R, moment: u64, what: Happening) {
+        if let Some(observer) = &self.observer {
+            observer.saw(rt, moment, what);
+        }
+    }
+}
+
+/// One share more, if there is anything to share.
+pub(crate) fn share_of<T>(
+    shared: &Option<Arc<T, Global>>,
+) -> Result<Option<Arc<T, Global>>, AllocError>
+    ensures { IfOk result (λ other. option_map arc_value other ≡ option_map arc_value shared.now) }
+{
+    match shared {
+        Some(one) => Ok(Some(Arc::try_clone(one)?)),
+        None => Ok(None),
     }
 }

@@ -1,59 +1,71 @@
 //! Results as they complete, before the join.
-ghost use Rattle.std.specs.Prelude.{◌≡◌, IfSome, MatchOption, MatchResult, remove};
+ghost use Rattle.std.specs.Prelude.{◌≡◌, [], IfSome, MatchOption, MatchResult, Ok, Some};
 ghost use Rattle.realm_core.specs.Calls.{SeesMore};
 ghost use Rattle.balkreyn.specs.Acting.{Pauses};
-ghost use Rattle.balkreyn.specs.Looking.{Completes, FindsDone, FindsNone, IsNotFound, LookRefused};
+ghost use Rattle.balkreyn.specs.Looking.{Completes, FindsDone, IsNotFound, LookRefused, NextCame, SleptLast};
 ghost use Rattle.balkreyn.specs.Slots.{task_of};
 
+use crate::act::came::Came;
 use crate::act::contexts::Acts;
 use crate::act::waits::{paused, rings_of};
 use crate::jobs::Yields;
 use crate::slots::Slot;
 use cancel_marks::Bell;
+use realm_lock::Mark;
 use scope_rules::{Refusal, State, TaskId};
 
 /// Waits until one more of the tasks of these slots has ended, takes its slot out, and gives its number and what its job
-/// came to: its value, or its own error; nothing if the task failed without one, since its job never ran, or left a scope
-/// open. None once there is no slot left, or if a cancel or a deadline comes first: then those that are left are as they
-/// were (Java, `ExecutorCompletionService`). It sleeps until a job is over, and looks each millisecond until its task has
-/// ended, too.
+/// came to. For a task that is taken so no join is owed. None once there is no slot left; if a cancel or a deadline comes
+/// first, its mark, and the slots are as they were (Java, `ExecutorCompletionService`). It sleeps until a job is over, and
+/// looks each millisecond until its task has ended, too.
 ///
 /// # Errors
 /// The refusal of a look, or of the wait. The slots are as they were.
 pub fn next_done<J: Yields, W, X: Acts<W>>(
     cx: &mut X,
     slots: &mut Vec<Slot<J>>,
-) -> Result<Option<(TaskId, Option<Result<J::Value, J::Error>>)>, Refusal>
-    ensures { MatchResult result (λ found. MatchOption found ((slots.new ≡ slots.old) × FindsNone X.token (λ old new slept. Pauses X.reads X.reading X.time X.token X.seat 1 old new slept) slots.old.items cx.old cx.new) (λ done. (index : _) × FindsDone X.token J.may_yield slots.old.items cx.old cx.new index done.0 done.1 × (slots.new.items ≡ remove slots.old.items index))) (λ refusal. (slots.new ≡ slots.old) × IsNotFound X.token (λ old new slept. Pauses X.reads X.reading X.time X.token X.seat 1 old new slept) cx.old cx.new refusal) }
-{
-    match one_done(cx, slots.as_slice())? {
-        Some((index, task, given)) => {
-            let _slot = slots.remove(index);
-            Ok(Some((task, given)))
-        }
-        None => Ok(None),
-    }
-}
-
-/// The index of a slot whose task has ended, once there is one, with that task's number and what its job came to.
-fn one_done<J: Yields, W, X: Acts<W>>(
-    cx: &mut X,
-    slots: &[Slot<J>],
-) -> Result<Option<(usize, TaskId, Option<Result<J::Value, J::Error>>)>, Refusal>
-    ensures { MatchResult result (λ found. MatchOption found (FindsNone X.token (λ old new slept. Pauses X.reads X.reading X.time X.token X.seat 1 old new slept) slots.now cx.old cx.new) (λ done. FindsDone X.token J.may_yield slots.now cx.old cx.new done.0 done.1 done.2)) (λ refusal. IsNotFound X.token (λ old new slept. Pauses X.reads X.reading X.time X.token X.seat 1 old new slept) cx.old cx.new refusal) }
+) -> Result<Option<Came<(TaskId, J::Value), (TaskId, J::Error)>>, Refusal>
+where
+    J::Error: From<Refusal>,
+    ensures { MatchResult result (λ found. MatchOption found ((slots.old.items ≡ []) × (slots.new ≡ slots.old) × (cx.new ≡ cx.old)) (NextCame X.token J.may_yield ⟦<J::Error as From<Refusal>>⟧.from_gives (λ old new slept. Pauses X.reads X.reading X.time X.token X.seat 1 old new slept) slots.old.items slots.new.items cx.old cx.new)) (λ refusal. (slots.new ≡ slots.old) × IsNotFound X.token (λ old new slept. Pauses X.reads X.reading X.time X.token X.seat 1 old new slept) cx.old cx.new refusal) }
 {
     if slots.is_empty() {
         return Ok(None);
     }
+    match one_done(cx, slots.as_slice())? {
+        Ok((index, (task, given))) => {
+            let slot = slots.remove(index);
+            cx.take_owed(slot.scope);
+            match given {
+                Ok(value) => Ok(Some(Came::Value((task, value)))),
+                Err(error) => Ok(Some(Came::Failed((task, error)))),
+            }
+        }
+        Err(mark) => Ok(Some(Came::Cut(mark))),
+    }
+}
+
+/// A task's number, and what its job came to.
+type Done<J> = (TaskId, Result<<J as Yields>::Value, <J as Yields>::Error>);
+
+/// The index of a slot whose task has ended, once there is one, with that task's number and what its job came to; or the mark
+/// of what ended the wait.
+fn one_done<J: Yields, W, X: Acts<W>>(
+    cx: &mut X,
+    slots: &[Slot<J>],
+) -> Result<Result<(usize, Done<J>), Mark>, Refusal>
+where
+    J::Error: From<Refusal>,
+    ensures { MatchResult result (λ found. MatchResult found (λ done. FindsDone X.token J.may_yield ⟦<J::Error as From<Refusal>>⟧.from_gives slots.now cx.old cx.new done.0 done.1.0 done.1.1) (λ mark. SleptLast X.token (λ old new slept. Pauses X.reads X.reading X.time X.token X.seat 1 old new slept) cx.old cx.new (Ok (Some mark)))) (λ refusal. IsNotFound X.token (λ old new slept. Pauses X.reads X.reading X.time X.token X.seat 1 old new slept) cx.old cx.new refusal) }
+{
     let bell = noted(cx, slots);
     for _ in 0..u64::MAX {
         let heard = rings_of(bell.as_ref());
-        if let Some((index, task, given)) = first_done(cx, slots)? {
-            return Ok(Some((index, task, given)));
+        if let Some((index, done)) = first_done(cx, slots)? {
+            return Ok(Ok((index, done)));
         }
-        let shown = paused(cx, 1, bell_for(&bell, slots), heard)?;
-        if shown.is_some() {
-            return Ok(None);
+        if let Some(mark) = paused(cx, 1, bell_for(&bell, slots), heard)? {
+            return Ok(Err(mark));
         }
     }
     for _ in cx.forever() {}
@@ -86,31 +98,38 @@ fn bell_for<'a, J: Yields>(bell: &'a Option<Bell>, slots: &[Slot<J>]) -> Option<
 fn first_done<J: Yields, W, X: Acts<W>>(
     cx: &mut X,
     slots: &[Slot<J>],
-) -> Result<Option<(usize, TaskId, Option<Result<J::Value, J::Error>>)>, Refusal>
+) -> Result<Option<(usize, Done<J>)>, Refusal>
+where
+    J::Error: From<Refusal>,
     ensures sees { SeesMore (X.token cx.old) (X.token cx.new) }
-    ensures answer { MatchResult result (λ found. IfSome found (λ done. FindsDone X.token J.may_yield slots.now cx.old cx.new done.0 done.1 done.2)) (λ refusal. (there : _) × (task : _) × SeesMore (X.token cx.old) (X.token there) × LookRefused (X.token there) (X.token cx.new) task refusal) }
+    ensures answer { MatchResult result (λ found. IfSome found (λ done. FindsDone X.token J.may_yield ⟦<J::Error as From<Refusal>>⟧.from_gives slots.now cx.old cx.new done.0 done.1.0 done.1.1)) (λ refusal. (there : _) × (task : _) × SeesMore (X.token cx.old) (X.token there) × LookRefused (X.token there) (X.token cx.new) task refusal) }
 {
     for index in 0..slots.len() {
         let slot = &slots[index];
-        if let Some((task, given)) = done_of(cx, slot)? {
-            return Ok(Some((index, task, given)));
+        if let Some(done) = done_of(cx, slot)? {
+            return Ok(Some((index, done)));
         }
     }
     Ok(None)
 }
 
 /// The number of the slot's task and what its job came to, once that has ended.
-fn done_of<J: Yields, W, X: Acts<W>>(
-    cx: &mut X,
-    slot: &Slot<J>,
-) -> Result<Option<(TaskId, Option<Result<J::Value, J::Error>>)>, Refusal>
+fn done_of<J: Yields, W, X: Acts<W>>(cx: &mut X, slot: &Slot<J>) -> Result<Option<Done<J>>, Refusal>
+where
+    J::Error: From<Refusal>,
     ensures sees { SeesMore (X.token cx.old) (X.token cx.new) }
-    ensures answer { MatchResult result (λ found. IfSome found (λ done. (done.0 ≡ task_of slot.now.reply) × Completes (J.may_yield slot.now.name) (X.token cx.old) (X.token cx.new) done.0 done.1)) (λ refusal. LookRefused (X.token cx.old) (X.token cx.new) (task_of slot.now.reply) refusal) }
+    ensures answer { MatchResult result (λ found. IfSome found (λ done. (done.0 ≡ task_of slot.now.reply) × Completes (J.may_yield slot.now.name) ⟦<J::Error as From<Refusal>>⟧.from_gives (X.token cx.old) (X.token cx.new) done.0 done.1)) (λ refusal. LookRefused (X.token cx.old) (X.token cx.new) (task_of slot.now.reply) refusal) }
 {
     let task = slot.task();
     match cx.state(task) {
-        Ok(State::Success(_number)) => Ok(Some((task, slot.place.won(cx, slot.name)))),
-        Ok(State::Failed(_fault)) => Ok(Some((task, slot.place.lost(cx)))),
+        Ok(State::Success(_number)) => match slot.place.take(cx, slot.name) {
+            Some(value) => Ok(Some((task, Ok(value)))),
+            None => Ok(Some((task, Err(Refusal::Unavailable.into())))),
+        },
+        Ok(State::Failed(_fault)) => match slot.place.error(cx) {
+            Some(error) => Ok(Some((task, Err(error)))),
+            None => Ok(Some((task, Err(Refusal::NotSuccess.into())))),
+        },
         Ok(State::Unavailable) => Ok(None),
         Err(refusal) => Err(refusal),
     }

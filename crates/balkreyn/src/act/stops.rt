@@ -1,6 +1,6 @@
 //! A stop that is asked for from outside.
-ghost use Rattle.balkreyn.specs.Acting.{Pauses};
-ghost use Rattle.balkreyn.specs.Looking.{Watches};
+ghost use Rattle.balkreyn.specs.Acting.{Pauses, Sleeps};
+ghost use Rattle.balkreyn.specs.Looking.{CancelsBehind, Watches};
 
 use crate::act::contexts::Acts;
 use crate::act::turns::{Turn, ring};
@@ -11,7 +11,7 @@ use scope_rules::{End, Fault, Refusal, ScopeId, Value};
 use std::alloc::Global;
 use std::sync::{Arc, Mutex, Wait};
 
-/// A stop of a service. Who may ask for it and `serve_until` share it in an `Arc`.
+/// A stop of a service. Who may ask for it and the service's `Hooks` share it in an `Arc`.
 ///
 /// A service that asks for its own stop, and finishes behind a shield:
 ///
@@ -30,11 +30,12 @@ pub struct Stop {
     file: Option<StopFile>,
 }
 
-/// Whether it was asked for, and the bell of the watch that waits for that.
+/// Whether it was asked for, and the bells of the watches that wait for that: one of each realm of a service.
 #[derive(Drop)]
 struct Asked {
     is_asked: bool,
-    bell: Option<Bell>,
+    first: Option<Bell>,
+    second: Option<Bell>,
 }
 
 /// A file that asks for a stop by being there.
@@ -63,8 +64,9 @@ impl Stop {
 
     /// Asks for it.
     pub fn ask<R: Wait>(&self, rt: &R) {
-        let bell = self.asked.lock(rt).ask();
-        ring(bell);
+        let (first, second) = self.asked.lock(rt).ask();
+        ring(first);
+        ring(second);
     }
 
     /// Whether it was asked for.
@@ -84,32 +86,52 @@ impl Asked {
     fn not_yet() -> Mutex<Asked> {
         Mutex::new(Asked {
             is_asked: false,
-            bell: None,
+            first: None,
+            second: None,
         })
     }
 
-    /// It is asked for; and the bell that is to be rung behind that.
-    fn ask(&mut self) -> Option<Bell> {
+    /// It is asked for; and the bells that are to be rung behind that.
+    fn ask(&mut self) -> (Option<Bell>, Option<Bell>) {
         self.is_asked = true;
-        self.bell.take()
+        (self.first.take(), self.second.take())
     }
 
-    /// A watch waits at this bell, if no other waits.
+    /// A watch waits at this bell, if no two others wait.
     fn note(&mut self, bell: Option<Bell>) -> Turn {
-        if self.bell.is_some() {
-            return Turn::alone(&None);
+        if self.first.is_none() {
+            let turn = Turn::at(Some(FIRST), &bell);
+            self.first = bell;
+            return turn;
         }
-        let turn = Turn::alone(&bell);
-        self.bell = bell;
-        turn
+        if self.second.is_none() {
+            let turn = Turn::at(Some(SECOND), &bell);
+            self.second = bell;
+            return turn;
+        }
+        Turn::at(None, &None)
+    }
+
+    /// The watch with this number waits no more.
+    fn forget(&mut self, number: Option<u64>) {
+        match number {
+            Some(FIRST) => self.first = None,
+            Some(_) => self.second = None,
+            None => {}
+        }
     }
 }
 
-/// A watch waits at a bell if no file can ask, and no other service's watch waits for the same stop.
+/// The numbers of the two places at a stop.
+const FIRST: u64 = 0;
+
+const SECOND: u64 = 1;
+
+/// A watch waits at a bell if no file can ask, and no two others wait for the same stop.
 impl Looks<()> for Stop {
     fn ask<R: Wait>(&self, rt: &R, bell: Option<Bell>) -> Turn {
         match &self.file {
-            Some(_) => Turn::alone(&None),
+            Some(_) => Turn::at(None, &None),
             None => self.asked.lock(rt).note(bell),
         }
     }
@@ -119,9 +141,7 @@ impl Looks<()> for Stop {
     }
 
     fn leave<R: Wait>(&self, rt: &R, turn: Turn) {
-        if turn.end() {
-            self.asked.lock(rt).bell = None;
-        }
+        self.asked.lock(rt).forget(turn.end());
     }
 }
 
@@ -138,16 +158,49 @@ impl StopFile {
 /// Watches for a stop of what runs in a scope.
 #[derive(Drop)]
 pub struct StopWatch {
-    pub(crate) stop: Arc<Stop, Global>,
-    pub(crate) scope: ScopeId,
+    stop: Arc<Stop, Global>,
+    scope: ScopeId,
+    /// The scope that is cancelled later, and how many milliseconds.
+    behind: Option<(ScopeId, u64)>,
 }
 
 impl StopWatch {
+    /// Of this stop, which cancels the scope at once.
+    pub(crate) fn cancelling(stop: Arc<Stop, Global>, scope: ScopeId) -> StopWatch {
+        let behind = None;
+        StopWatch {
+            stop,
+            scope,
+            behind,
+        }
+    }
+
+    /// The same, and a second scope so many milliseconds later.
+    pub(crate) fn with_grace(self, scope: ScopeId, grace: u64) -> StopWatch {
+        StopWatch {
+            behind: Some((scope, grace)),
+            ..self
+        }
+    }
+
     /// Watches until the stop is asked for, and then cancels the scope. It looks each ten milliseconds if a file can ask.
     pub(crate) fn run<W, X: Acts<W>>(self, cx: &mut X) -> End {
         match watched(cx, &self) {
-            Ok(asked) => Ok(Value::Num(i64::from(asked))),
+            // a turn that has handed on has closed its scope, and its requests still run
+            Ok(true) | Err(Refusal::Closed) => self.give_grace(cx),
+            Ok(false) => Ok(Value::Num(0)),
             Err(_refusal) => Err(Fault(named(b"no-watch"))),
+        }
+    }
+
+    /// Cancels the second scope, if there is one, once its time has come.
+    fn give_grace<W, X: Acts<W>>(&self, cx: &mut X) -> End {
+        let Some((scope, grace)) = self.behind else {
+            return Ok(Value::Num(1));
+        };
+        match cancelled_behind(cx, scope, grace) {
+            Ok(_) => Ok(Value::Num(1)),
+            Err(_refusal) => Err(Fault(named(b"no-grace"))),
         }
     }
 }
@@ -157,11 +210,23 @@ fn watched<W, X: Acts<W>>(cx: &mut X, watch: &StopWatch) -> Result<bool, Refusal
     ensures { Watches X.token (λ old new slept. Pauses X.reads X.reading X.time X.token X.seat 10 old new slept) watch.now.scope cx.old cx.new result }
 {
     let stop: &Stop = &watch.stop;
-    match awaited(cx, 10, stop)? {
-        Some(()) => {
+    let waited = awaited(cx, 10, stop)?;
+    match waited {
+        Ok(()) => {
             cx.cancel(watch.scope)?;
             Ok(true)
         }
-        None => Ok(false),
+        Err(_mark) => Ok(false),
     }
+}
+
+/// Cancels the scope so many milliseconds later; false if a cancel comes first.
+fn cancelled_behind<W, X: Acts<W>>(cx: &mut X, scope: ScopeId, millis: u64) -> Result<bool, Refusal>
+    ensures { CancelsBehind X.token (λ old new slept. Sleeps X.reads X.reading X.time X.token X.seat millis old new slept) scope cx.old cx.new result }
+{
+    if cx.sleep(millis)?.is_some() {
+        return Ok(false);
+    }
+    cx.cancel(scope)?;
+    Ok(true)
 }

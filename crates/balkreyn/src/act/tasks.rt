@@ -1,8 +1,10 @@
 //! Jobs and services that act by one value.
 ghost use Rattle.std.specs.Prelude.{◌≡◌, IfOk};
 
+use crate::act::asking::Asking;
 use crate::act::contexts::{Acts, Cx};
-use crate::act::hooks::{AtHand, Happening, Hooks, Load, Observes, Shares};
+use crate::act::frames::Frames;
+use crate::act::hooks::{AtHand, Happening, Hooks, Observes, Shares};
 use crate::act::stops::{Stop, StopWatch};
 use crate::act::told::Told;
 use crate::act::watches::Watch;
@@ -16,7 +18,7 @@ use job_runner::{Answers, Clock, Job, JobWork, SystemClock, TaskCtx};
 use join_rules::Joiner;
 use realm_lock::{RealmName, Seed};
 use scope_rules::{AnyEnd, End, ForkReply, Name, Options, Refusal, ScopeId};
-use std::alloc::{AllocError, Global};
+use std::alloc::Global;
 use std::marker::{Brand, PhantomData};
 use std::rt::Clock as SystemTime;
 use std::sync::{Arc, Wait};
@@ -48,10 +50,11 @@ pub trait Task: Drop + Sized {
         ensures { Self.may_end self result };
 }
 
-/// What is run for a service: a job of its own, the watch for its stop, or the one for its files.
+/// What is run for a service: a job of its own, a request, the watch for its stop, or the one for its files.
 #[derive(Drop)]
 pub enum Part<W> {
     Own(W),
+    Request(Asking<W>),
     Stop(StopWatch),
     Watch(Watch),
 }
@@ -66,6 +69,8 @@ pub struct Timed<K, W, O> {
     pub(crate) one: Option<AtHand>,
     /// The scope in which it is forked.
     pub(crate) scope: ScopeId,
+    /// The earliest deadline that is known to who forks it.
+    pub(crate) deadline: Option<u64>,
     pub(crate) name: Name,
     pub(crate) job: Part<W>,
 }
@@ -88,25 +93,36 @@ impl<K: Handle, N: RealmName, W: Task, O: Observes, S: CanFork<AnyEnd, N, Timed<
             hooks,
             one,
             scope,
+            deadline,
             name,
             job,
         } = self;
-        let (observer, mut last) = (&hooks.observer, clock);
-        observer.saw(&last.runtime(), last.now(), Happening::Started { name });
-        let hears = observer.is_there() && matches!(&job, Part::Own(_));
+        let mut last = clock;
+        hooks.saw(&last.runtime(), last.now(), Happening::Started { name });
+        let hears = hooks.is_observed() && matches!(&job, Part::Own(_) | Part::Request(_));
         let told = Told::nothing(alloc, hears, Some(scope));
-        let mut cx = Cx::new(alloc, clock, &hooks, told, ctx);
+        let frames = Frames::within(alloc, deadline);
+        let mut cx = Cx::new(alloc, clock, &hooks, told, frames, ctx);
+        let mut lost = None;
         let end = match job {
             Part::Own(job) => job.run(&mut cx),
+            Part::Request(asking) => {
+                let (end, why) = asking.run(&mut cx);
+                lost = why;
+                end
+            }
             Part::Stop(watch) => watch.run(&mut cx),
             Part::Watch(watch) => watch.act(&mut cx),
         };
         let fault = end.err();
-        observer.saw(
+        hooks.saw(
             &last.runtime(),
             last.now(),
             Happening::Ended { name, fault },
         );
+        if let Some(why) = lost {
+            hooks.saw(&last.runtime(), last.now(), Happening::Lost { name, why });
+        }
         drop(one);
         end
     }
@@ -240,7 +256,10 @@ fn serve_stoppable<
     };
     let rt = clock.runtime();
     let scope = ctx.open_scope(&rt, Joiner::AwaitAll, Options::PLAIN)?;
-    let (name, part) = (named(b"stop"), Part::Stop(StopWatch { stop, scope }));
+    let (name, part) = (
+        named(b"stop"),
+        Part::Stop(StopWatch::cancelling(stop, scope)),
+    );
     let forked = fork_part::<K, N, W, O, S>(alloc, clock, ctx, shares, scope, name, part);
     let found = match forked {
         Ok(_reply) => serve_plainly::<K, N, W, O, V, S>(alloc, clock, ctx, shares, service),
@@ -268,8 +287,9 @@ fn serve_plainly<
 ) -> Result<V::Answer, V::Error>
     ensures { IfOk result (λ answer. V.may_answer service answer) }
 {
-    let told = Told::nothing(alloc, shares.observer.is_there(), None);
-    service.serve(&mut Cx::new(alloc, clock, shares, told, ctx))
+    let told = Told::nothing(alloc, shares.is_observed(), None);
+    let frames = Frames::within(alloc, None);
+    service.serve(&mut Cx::new(alloc, clock, shares, told, frames, ctx))
 }
 
 /// Forks a part that is none of the service's jobs at hand.
@@ -288,6 +308,7 @@ fn fork_part<K: Handle, N: RealmName, W: Task, O: Observes, S: CanFork<AnyEnd, N
         hooks: shares.share()?,
         one: None,
         scope,
+        deadline: None,
         name,
         job: part,
     };
@@ -297,91 +318,14 @@ fn fork_part<K: Handle, N: RealmName, W: Task, O: Observes, S: CanFork<AnyEnd, N
 /// Runs the service on a thread pool of its own, as `serve_on_pool` does: at most `keep` of its threads may be idle.
 /// Its realm has the greatest limits, and its time counts from now. That it returns is not promised.
 ///
+/// With a stop it serves until that is asked for: then all that it does is cancelled, but what is behind a shield. With a
+/// watch it serves beside that: a job named `watch`, with a thread, which ends at once when the service does, and which a
+/// stop doesn't end. Either has a scope around it all, so `retire` is refused then. `serve_requests` serves for ever.
+///
 /// # Errors
 /// That of the service; before it begins `Memory`, if memory or a thread is refused, and `NoTime`, if the system gives
-/// no time.
-pub fn serve<W: Task + Send + 'static, V: Serves<W> + Drop, R: PoolRuntime + SystemTime>(
-    rt: &R,
-    alloc: Global,
-    keep: usize,
-    service: V,
-) -> Result<V::Answer, V::Error>
-where
-    V::Error: From<NoTime>,
-    ensures { IfOk result (λ answer. V.may_answer service answer) }
-{
-    match plain(alloc, None, None) {
-        Ok(hooks) => serve_with::<W, (), V, R>(rt, alloc, keep, hooks, service),
-        Err(_) => Err(Refusal::Memory.into()),
-    }
-}
-
-/// Hooks with no observer and no cap, and with this stop and this watch.
-fn plain(
-    alloc: Global,
-    stop: Option<Arc<Stop, Global>>,
-    watch: Option<Watch>,
-) -> Result<Hooks<()>, AllocError> {
-    Ok(Hooks {
-        stop,
-        watch,
-        load: Arc::new(alloc, Load::at_most(u64::MAX))?,
-        observer: Arc::new(alloc, ())?,
-    })
-}
-
-/// Runs the service as `serve` does, until the stop is asked for: then all that it does is cancelled, but what is behind
-/// a shield. It has a scope around it all, so `retire` is refused: a service that retires has a scope of its own to stop.
-/// One thread watches; if a file can ask, it looks each ten milliseconds.
-///
-/// # Errors
-/// Those of `serve`, and the refusal of the scope, of its watch, or of its close.
-pub fn serve_until<W: Task + Send + 'static, V: Serves<W> + Drop, R: PoolRuntime + SystemTime>(
-    rt: &R,
-    alloc: Global,
-    keep: usize,
-    stop: Arc<Stop, Global>,
-    service: V,
-) -> Result<V::Answer, V::Error>
-where
-    V::Error: From<NoTime>,
-    ensures { IfOk result (λ answer. V.may_answer service answer) }
-{
-    match plain(alloc, Some(stop), None) {
-        Ok(hooks) => serve_with::<W, (), V, R>(rt, alloc, keep, hooks, service),
-        Err(_) => Err(Refusal::Memory.into()),
-    }
-}
-
-/// Runs the service as `serve` does, beside a watch that writes tree and journal to files if nothing happens for too long,
-/// or if somebody asks. The watch is a job named `watch`, has a thread, and ends at once when the service does. It has a
-/// scope around it all, so `retire` is refused: a service that retires forks its watch by hand (`Watch::act`).
-///
-/// # Errors
-/// Those of `serve`, and the refusal of the scope, of its watch, or of its close.
-pub fn serve_watched<W: Task + Send + 'static, V: Serves<W> + Drop, R: PoolRuntime + SystemTime>(
-    rt: &R,
-    alloc: Global,
-    keep: usize,
-    watch: Watch,
-    service: V,
-) -> Result<V::Answer, V::Error>
-where
-    V::Error: From<NoTime>,
-    ensures { IfOk result (λ answer. V.may_answer service answer) }
-{
-    match plain(alloc, None, Some(watch)) {
-        Ok(hooks) => serve_with::<W, (), V, R>(rt, alloc, keep, hooks, service),
-        Err(_) => Err(Refusal::Memory.into()),
-    }
-}
-
-/// Runs the service as `serve` does, with hooks: an observer, counters with a cap on the jobs at hand, and a stop and a
-/// watch, if there are any. A stop doesn't end the watch, which sees what hangs behind it.
-///
-/// # Errors
-/// Those of `serve_until` and `serve_watched`.
-pub fn serve_with<
+/// no time; and the refusal of a scope for stop or watch, of its job, or of its close.
+pub fn serve<
     W: Task + Send + 'static,
     O: Observes + Send + Sync + 'static,
     V: Serves<W> + Drop,

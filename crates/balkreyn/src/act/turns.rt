@@ -31,21 +31,19 @@ impl Turn {
         self.bell.as_ref()
     }
 
-    /// The place of one beside whom no other waits, at this bell.
-    pub(crate) fn alone(bell: &Option<Bell>) -> Turn {
-        Turn {
-            number: None,
-            bell: share_of(bell),
-        }
+    /// A place outside any line, with this number, at this bell.
+    pub(crate) fn at(number: Option<u64>, bell: &Option<Bell>) -> Turn {
+        let bell = share_of(bell);
+        Turn { number, bell }
     }
 
-    /// The end of such a place; whether it had a bell.
-    pub(crate) fn end(self) -> bool {
+    /// The end of such a place, and its number.
+    pub(crate) fn end(self) -> Option<u64> {
         let Turn {
-            number: _number,
-            bell,
+            number,
+            bell: _bell,
         } = self;
-        bell.is_some()
+        number
     }
 }
 

@@ -1,19 +1,21 @@
 //! Typed jobs that act by one value, and what is done with several of them.
-ghost use Rattle.std.specs.Prelude.{◌≡◌, IfOk, IfSome, MatchResult, Ok, pos, Contains, length};
+ghost use Rattle.std.specs.Prelude.{◌≡◌, IfOk, IfSome, MatchResult, None, pos, Contains, length};
 ghost use Rattle.scope_rules.specs.declared.types.joiners.Policy.TheVariants as policy;
 ghost use Rattle.scope_rules.specs.declared.types.values.Value.TheVariants as value;
 ghost use Rattle.realm_core.specs.Calls.{SeesMore};
 ghost use Rattle.balkreyn.specs.Acting.{ClosesNow, JoinsFrom};
 ghost use Rattle.balkreyn.specs.Bodies.{Opens};
-ghost use Rattle.balkreyn.specs.Slots.{ForksInto, Says, SlotValue, Takes, task_of};
-ghost use Rattle.balkreyn.specs.Together.{FindsNothing, ForkedInto, Gathers, Gave, Races, RunsJobs, StopsForking, Won};
+ghost use Rattle.balkreyn.specs.Slots.{ForksInto, Says, Takes, task_of};
+ghost use Rattle.balkreyn.specs.Together.{CameTo, FindsNothing, FirstCame, ForkedInto, Gathers, Gave, Races, RunsJobs, StopsForking};
 
 use crate::act::blocks::entered;
+use crate::act::came::{Came, came_of};
 use crate::act::contexts::Acts;
 use crate::act::tasks::Task;
 use crate::jobs::{Typed, Yields};
 use crate::slots::{Slot, place_and_share};
 use join_rules::Joiner;
+use realm_lock::Mark;
 use scope_rules::{End, Name, Options, Outcome, Refusal, ScopeId, TaskId, Value};
 
 /// A job that answers a value of a type of its own, and acts by one value (JEP 505 has a `Callable` of that type).
@@ -82,7 +84,12 @@ pub fn fork_value<J: Yields + Drop, W: From<Typed<J>>, X: Acts<W>>(
     };
     let work = W::from(Typed { name, job, share });
     match cx.fork(scope, name, work) {
-        Ok(reply) => Ok(Slot { name, reply, place }),
+        Ok(reply) => Ok(Slot {
+            name,
+            scope,
+            reply,
+            place,
+        }),
         Err(refusal) => Err(refusal),
     }
 }
@@ -116,12 +123,12 @@ impl<J: Yields> Slot<J> {
         ensures { Says (J.may_yield self.now.name) (X.token cx.old) (X.token cx.new) (task_of self.now.reply) result }
     {
         match cx.result(self.task()) {
-            Ok(_number) => match self.place.won(cx, self.name) {
-                Some(found) => Ok(found),
+            Ok(_number) => match self.place.take(cx, self.name) {
+                Some(value) => Ok(Ok(value)),
                 None => Err(Refusal::Unavailable),
             },
-            Err(Refusal::NotSuccess) => match self.place.lost(cx) {
-                Some(found) => Ok(found),
+            Err(Refusal::NotSuccess) => match self.place.error(cx) {
+                Some(error) => Ok(Err(error)),
                 None => Err(Refusal::NotSuccess),
             },
             Err(refusal) => Err(refusal),
@@ -146,35 +153,6 @@ fn fork_all<J: Yields + Drop, W: From<Typed<J>>, X: Acts<W>>(
     Ok(slots)
 }
 
-/// Joins the scope, and gives the value in the slot of the task that was the first to succeed.
-fn won<J: Yields, W, X: Acts<W>>(
-    cx: &mut X,
-    scope: ScopeId,
-    slots: &[Slot<J>],
-) -> Result<J::Value, Refusal>
-    ensures { MatchResult result (Won X.reads J.may_yield (X.time cx.old) (X.token cx.old) (X.token cx.new) scope slots.now) (λ refusal. (answered : _) × (after : _) × JoinsFrom X.reads (X.time cx.old) (X.token cx.old) after scope answered) }
-{
-    let joined = cx.join(scope)?;
-    match &joined.outcome {
-        Outcome::Any { task, .. } => value_in(cx, slots, *task),
-        _ => Err(Refusal::Unavailable),
-    }
-}
-
-/// The value in the slot of this task, which is one of them.
-fn value_in<J: Yields, W, X: Acts<W>>(
-    cx: &mut X,
-    slots: &[Slot<J>],
-    task: TaskId,
-) -> Result<J::Value, Refusal>
-    ensures { IfOk result (λ value. (slot : SlotValue) × Contains slots.now slot × (task_of slot.reply ≡ task) × Takes (J.may_yield slot.name) (X.token cx.old) (X.token cx.new) task (Ok value)) }
-{
-    match slot_of(slots, task) {
-        Some(slot) => slot.value(cx),
-        None => Err(Refusal::Unavailable),
-    }
-}
-
 /// The slot of this task, if it is one of them.
 fn slot_of<J: Yields>(slots: &[Slot<J>], task: TaskId) -> Option<&Slot<J>>
     ensures { IfSome result (λ slot. Contains slots.now slot.now × (task_of slot.now.reply ≡ task)) }
@@ -187,18 +165,62 @@ fn slot_of<J: Yields>(slots: &[Slot<J>], task: TaskId) -> Option<&Slot<J>>
     None
 }
 
-/// Runs all these jobs in a scope of their own, and gives the value of the first that succeeds; the others are
-/// cancelled then (JEP 505, `anySuccessfulResultOrThrow`). With a deadline among the options it may come first.
+/// What came of the task, whose slot is one of these.
+fn came_to<J: Yields, W, X: Acts<W>>(
+    cx: &mut X,
+    slots: &[Slot<J>],
+    task: TaskId,
+) -> Result<Came<J::Value, J::Error>, Refusal>
+where
+    J::Error: From<Refusal>,
+    ensures { IfOk result (CameTo X.token J.may_yield ⟦<J::Error as From<Refusal>>⟧.from_gives None slots.now cx.old cx.new task) }
+{
+    match slot_of(slots, task) {
+        Some(slot) => {
+            let answer = slot.answer(cx);
+            Ok(came_of(answer, &mut None))
+        }
+        None => Err(Refusal::Unavailable),
+    }
+}
+
+/// Joins the scope, and gives what came of the task that its outcome names: the first to succeed, or if all failed the first
+/// to fail. If the outcome names none, it gives the mark, if one is shown.
+fn first_of<J: Yields, W, X: Acts<W>>(
+    cx: &mut X,
+    scope: ScopeId,
+    slots: &[Slot<J>],
+) -> Result<Came<J::Value, J::Error>, Refusal>
+where
+    J::Error: From<Refusal>,
+    ensures { MatchResult result (FirstCame X.token X.reads X.time X.seat J.may_yield ⟦<J::Error as From<Refusal>>⟧.from_gives scope slots.now cx.old cx.new) (λ refusal. (answered : _) × (after : _) × JoinsFrom X.reads (X.time cx.old) (X.token cx.old) after scope answered) }
+{
+    let joined = cx.join(scope)?;
+    match &joined.outcome {
+        Outcome::Any { task, .. } => came_to(cx, slots, *task),
+        Outcome::Failed { task, .. } => came_to(cx, slots, *task),
+        _ => match cx.checkpoint() {
+            Some(mark) => Ok(Came::Cut(mark)),
+            None => Err(Refusal::Unavailable),
+        },
+    }
+}
+
+/// Runs all these jobs in a scope of their own, and gives what came first: the value of the first that succeeds; the others
+/// are cancelled then (JEP 505, `anySuccessfulResultOrThrow`). If all fail, it is the error of the first that failed, and if
+/// a cancel or a deadline among the options comes before, its mark.
 ///
 /// # Errors
-/// `Unavailable` if none succeeded by then, and else the refusal of a call.
+/// `Unavailable` if there are no jobs, and else the refusal of a call.
 pub fn race<J: Yields + Drop, W: From<Typed<J>>, X: Acts<W>>(
     cx: &mut X,
     name: Name,
     options: Options,
     jobs: Vec<J>,
-) -> Result<J::Value, Refusal>
-    ensures { RunsJobs (Opens X.token X.left_by_open policy.Any options) (ClosesNow X.token X.left_by_close X.reads X.time) (λ scope begun ended found. MatchResult found (Races X.token X.reads X.time J.may_yield name (length jobs.items) scope begun ended) (FindsNothing X.token X.reads X.time name (length jobs.items) scope begun ended)) cx.old cx.new result }
+) -> Result<Came<J::Value, J::Error>, Refusal>
+where
+    J::Error: From<Refusal>,
+    ensures { RunsJobs (Opens X.token X.left_by_open policy.Any options) (ClosesNow X.token X.left_by_close X.reads X.time) (λ scope begun ended found. MatchResult found (Races X.token X.reads X.time X.seat J.may_yield ⟦<J::Error as From<Refusal>>⟧.from_gives name (length jobs.items) scope begun ended) (FindsNothing X.token X.reads X.time name (length jobs.items) scope begun ended)) cx.old cx.new result }
 {
     let scope = entered(cx, Joiner::Any, options)?;
     let found = raced(cx, scope, name, jobs);
@@ -206,21 +228,23 @@ pub fn race<J: Yields + Drop, W: From<Typed<J>>, X: Acts<W>>(
     found
 }
 
-/// Forks all these jobs in the scope, and gives the value of the first that succeeds.
+/// Forks all these jobs in the scope, and gives what came first.
 fn raced<J: Yields + Drop, W: From<Typed<J>>, X: Acts<W>>(
     cx: &mut X,
     scope: ScopeId,
     name: Name,
     jobs: Vec<J>,
-) -> Result<J::Value, Refusal>
-    ensures { MatchResult result (Races X.token X.reads X.time J.may_yield name (length jobs.items) scope cx.old cx.new) (FindsNothing X.token X.reads X.time name (length jobs.items) scope cx.old cx.new) }
+) -> Result<Came<J::Value, J::Error>, Refusal>
+where
+    J::Error: From<Refusal>,
+    ensures { MatchResult result (Races X.token X.reads X.time X.seat J.may_yield ⟦<J::Error as From<Refusal>>⟧.from_gives name (length jobs.items) scope cx.old cx.new) (FindsNothing X.token X.reads X.time name (length jobs.items) scope cx.old cx.new) }
 {
     let slots = fork_all(cx, scope, name, jobs)?;
-    won(cx, scope, &slots)
+    first_of(cx, scope, &slots)
 }
 
-/// Runs all these jobs in a scope of their own, and gives the value of each that succeeded, in order; there is none of
-/// one that failed, or that a deadline among the options cut off.
+/// Runs all these jobs in a scope of their own, and gives what came of each, in order: those that a cancel or a deadline
+/// among the options cut off have its mark.
 ///
 /// # Errors
 /// The refusal of a call.
@@ -229,8 +253,10 @@ pub fn all_of<J: Yields + Drop, W: From<Typed<J>>, X: Acts<W>>(
     name: Name,
     options: Options,
     jobs: Vec<J>,
-) -> Result<Vec<Option<J::Value>>, Refusal>
-    ensures { RunsJobs (Opens X.token X.left_by_open policy.AwaitAll options) (ClosesNow X.token X.left_by_close X.reads X.time) (λ scope begun ended found. MatchResult found (λ values. Gathers X.token X.reads X.time J.may_yield name (length jobs.items) scope begun ended values.items) (FindsNothing X.token X.reads X.time name (length jobs.items) scope begun ended)) cx.old cx.new result }
+) -> Result<Vec<Came<J::Value, J::Error>>, Refusal>
+where
+    J::Error: From<Refusal>,
+    ensures { RunsJobs (Opens X.token X.left_by_open policy.AwaitAll options) (ClosesNow X.token X.left_by_close X.reads X.time) (λ scope begun ended found. MatchResult found (λ cames. Gathers X.token X.reads X.time X.seat J.may_yield ⟦<J::Error as From<Refusal>>⟧.from_gives name (length jobs.items) scope begun ended cames.items) (FindsNothing X.token X.reads X.time name (length jobs.items) scope begun ended)) cx.old cx.new result }
 {
     let scope = entered(cx, Joiner::AwaitAll, options)?;
     let found = gathered(cx, scope, name, jobs);
@@ -238,30 +264,37 @@ pub fn all_of<J: Yields + Drop, W: From<Typed<J>>, X: Acts<W>>(
     found
 }
 
-/// Forks all these jobs in the scope, joins it, and gives the value of each that succeeded.
+/// Forks all these jobs in the scope, joins it, and gives what came of each.
 fn gathered<J: Yields + Drop, W: From<Typed<J>>, X: Acts<W>>(
     cx: &mut X,
     scope: ScopeId,
     name: Name,
     jobs: Vec<J>,
-) -> Result<Vec<Option<J::Value>>, Refusal>
-    ensures { MatchResult result (λ values. Gathers X.token X.reads X.time J.may_yield name (length jobs.items) scope cx.old cx.new values.items) (FindsNothing X.token X.reads X.time name (length jobs.items) scope cx.old cx.new) }
+) -> Result<Vec<Came<J::Value, J::Error>>, Refusal>
+where
+    J::Error: From<Refusal>,
+    ensures { MatchResult result (λ cames. Gathers X.token X.reads X.time X.seat J.may_yield ⟦<J::Error as From<Refusal>>⟧.from_gives name (length jobs.items) scope cx.old cx.new cames.items) (FindsNothing X.token X.reads X.time name (length jobs.items) scope cx.old cx.new) }
 {
     let slots = fork_all(cx, scope, name, jobs)?;
     cx.join(scope)?;
-    given(cx, &slots)
+    let mut shown = cx.checkpoint();
+    given(cx, &slots, &mut shown)
 }
 
-/// The value of each of the slots, in order, if it has one.
+/// What came of each of the slots, in order, if this mark was shown behind the join.
 fn given<J: Yields, W, X: Acts<W>>(
     cx: &mut X,
     slots: &[Slot<J>],
-) -> Result<Vec<Option<J::Value>>, Refusal>
-    ensures { IfOk result (λ values. Gave X.token J.may_yield slots.now cx.old (length slots.now) values.items cx.new) }
+    shown: &mut Option<Mark>,
+) -> Result<Vec<Came<J::Value, J::Error>>, Refusal>
+where
+    J::Error: From<Refusal>,
+    ensures { IfOk result (λ cames. Gave X.token J.may_yield ⟦<J::Error as From<Refusal>>⟧.from_gives shown.old slots.now cx.old (length slots.now) cames.items cx.new) }
 {
-    let mut values = Vec::new(cx.alloc());
+    let mut cames = Vec::new(cx.alloc());
     for slot in slots {
-        values.push(slot.value(cx).ok())?;
+        let answer = slot.answer(cx);
+        cames.push(came_of(answer, shown))?;
     }
-    Ok(values)
+    Ok(cames)
 }

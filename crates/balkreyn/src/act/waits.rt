@@ -22,7 +22,7 @@ pub(crate) trait Looks<T> {
     fn leave<R: Wait>(&self, rt: &R, turn: Turn);
 }
 
-/// Looks, and if it isn't there waits for it in line. None if a cancel or a deadline ends the wait.
+/// Looks, and if it isn't there waits for it in line. If a cancel or a deadline ends the wait, it gives the mark.
 ///
 /// # Errors
 /// The refusal of the wait.
@@ -30,12 +30,12 @@ pub(crate) fn awaited<T, A: Looks<T>, W, X: Acts<W>>(
     cx: &mut X,
     millis: u64,
     it: &A,
-) -> Result<Option<T>, Refusal>
+) -> Result<Result<T, Mark>, Refusal>
     ensures sees { SeesMore (X.token cx.old) (X.token cx.new) }
     ensures answer { Awaits X.token (λ old new slept. Pauses X.reads X.reading X.time X.token X.seat millis old new slept) cx.old cx.new result }
 {
     if let Some(found) = it.look(cx, None) {
-        return Ok(Some(found));
+        return Ok(Ok(found));
     }
     let turn = it.ask(cx, Bell::new(cx.alloc()).ok());
     let found = in_line(cx, millis, it, &turn);
@@ -49,18 +49,17 @@ fn in_line<T, A: Looks<T>, W, X: Acts<W>>(
     millis: u64,
     it: &A,
     turn: &Turn,
-) -> Result<Option<T>, Refusal>
+) -> Result<Result<T, Mark>, Refusal>
     ensures sees { SeesMore (X.token cx.old) (X.token cx.new) }
     ensures answer { Awaits X.token (λ old new slept. Pauses X.reads X.reading X.time X.token X.seat millis old new slept) cx.old cx.new result }
 {
     for _ in 0..u64::MAX {
         let heard = rings_of(turn.bell());
         if let Some(found) = it.look(cx, Some(turn)) {
-            return Ok(Some(found));
+            return Ok(Ok(found));
         }
-        let shown = paused(cx, millis, turn.bell(), heard)?;
-        if shown.is_some() {
-            return Ok(None);
+        if let Some(mark) = paused(cx, millis, turn.bell(), heard)? {
+            return Ok(Err(mark));
         }
     }
     for _ in cx.forever() {}

@@ -3,16 +3,19 @@ ghost use Rattle.realm_core.specs.Calls.{SeesMore};
 ghost use Rattle.balkreyn.specs.Acting.{Sleeps};
 ghost use Rattle.balkreyn.specs.Looking.{WatchesOn};
 
+use crate::act::baton::Side;
 use crate::act::contexts::Acts;
 use crate::times::Times;
 use scope_rules::{End, Refusal, Value};
+use std::alloc::{AllocError, Global};
 use std::fs;
 use std::rt::HostRuntime;
 
 /// A job that watches its realm: it looks every so many milliseconds, and writes the tree and the journal with times to
-/// two files if nothing has happened for too long, once each time, or if somebody asks. `serve_watched` runs one beside a
-/// service. By hand fork it in a scope around what it watches; the close of that scope ends it. A file that can't be
-/// written is passed over.
+/// two files if nothing has happened for too long, once each time, or if somebody asks. `serve` and `serve_requests` run
+/// the one of their `Hooks` beside a service; of the second realm of `serve_requests` the files' names end with `.2`. By
+/// hand fork it in a scope around what it watches; the close of that scope ends it. A file that can't be written is passed
+/// over.
 ///
 /// A service under a watch, which writes once nothing has happened for 60 milliseconds:
 ///
@@ -31,7 +34,11 @@ use std::rt::HostRuntime;
 ///         every: 2,
 ///         late: 60,
 ///     };
-///     serve_watched::<Work, Hanging, R>(rt, alloc, 2, watch, service)
+///     let hooks = Hooks {
+///         watch: Some(watch),
+///         ..Hooks::none()
+///     };
+///     serve::<Work, (), Hanging, R>(rt, alloc, 2, hooks, service)
 /// }
 /// ```
 #[derive(Drop)]
@@ -61,6 +68,18 @@ struct Watching {
 }
 
 impl Watch {
+    /// The same for one turn of a realm, which has files of its own if it is the second.
+    pub(crate) fn for_turn(&self, alloc: Global, side: Side) -> Result<Watch, AllocError> {
+        Ok(Watch {
+            io: self.io,
+            tree: path_for(alloc, side, &self.tree)?,
+            journal: path_for(alloc, side, &self.journal)?,
+            ask: path_for(alloc, side, &self.ask)?,
+            every: self.every,
+            late: self.late,
+        })
+    }
+
     /// Watches until a cancel, as by the close of its scope, or a refusal ends a sleep. It never fails, and its value is how
     /// often it wrote.
     pub fn act<W, X: Acts<W>>(self, cx: &mut X) -> End
@@ -83,6 +102,16 @@ impl Watch {
         for _ in cx.forever() {}
         unreachable!()
     }
+}
+
+/// The path of a file of this side.
+fn path_for(alloc: Global, side: Side, path: &String) -> Result<String, AllocError> {
+    let mut its = String::from_str(alloc, path.as_str())?;
+    match side {
+        Side::First => {}
+        Side::Second => its.push_str(".2")?,
+    }
+    Ok(its)
 }
 
 impl Watching {
@@ -136,7 +165,7 @@ impl Watching {
             journal,
             ..
         } = &self.watch;
-        let (shown, script) = (cx.tree()?, cx.timed_journal(&self.times)?);
+        let (shown, script) = (cx.timed_tree(&self.times)?, cx.timed_journal(&self.times)?);
         let _shown = fs::write(io, tree.as_str(), shown.as_str());
         let _script = fs::write(io, journal.as_str(), script.as_str());
         Ok(())

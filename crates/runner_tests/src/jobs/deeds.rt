@@ -5,7 +5,7 @@ use super::duties::{Duty, SHIELD, Shared, TestJob, fork, number_of};
 use job_runner::{JobWork, TaskCtx};
 use join_rules::Joiner;
 use realm_lock::RealmName;
-use scope_rules::{AnyEnd, Name, Options, State, TaskId, Value};
+use scope_rules::{AnyEnd, Name, Options, ScopeId, State, TaskId, Value};
 use std::sync::Wait;
 use std::thread;
 use thread_pool::{Spawner, Spawns};
@@ -43,6 +43,19 @@ pub fn wait_until<N: RealmName, S: Spawner<N>, R: Wait>(
     match ctx.wait_cancelled(rt) {
         Some(mark) => i64::from(mark.scope),
         None => 0,
+    }
+}
+
+/// Cancels the scope, and looks for the context's mark. Whether it says that scope.
+pub fn cancel_and_look<N: RealmName, S: Spawner<N>, R: Wait>(
+    rt: &R,
+    ctx: &mut TaskCtx<AnyEnd, S, N>,
+    scope: ScopeId,
+) -> bool {
+    let _how = ctx.cancel(rt, scope);
+    match ctx.checkpoint() {
+        Some(mark) => mark.scope == scope,
+        None => false,
     }
 }
 

@@ -1,6 +1,7 @@
 //! Jobs of several kinds, and how they are forked.
 use super::deeds::{
-    bind_and_unbind, grow, leave_two, look, meet_shielded, open_all, wait_for, wait_until,
+    bind_and_unbind, cancel_and_look, grow, leave_two, look, meet_shielded, open_all, wait_for,
+    wait_until,
 };
 use job_runner::{Answers, Job, JobWork, NamedJob, TaskCtx};
 use join_rules::Joiner;
@@ -94,6 +95,8 @@ pub enum Duty {
     Looks { looks: u32 },
     /// It waits for its mark, and ends with the scope that the mark says.
     Waits,
+    /// It cancels the scope, and is counted once more if its mark says that.
+    Cancels { scope: ScopeId },
     /// It opens a scope, and ends with 5.
     LeavesOpen,
     /// It forks a job that leaves a scope open, in a scope that it leaves open, and ends with 6.
@@ -137,6 +140,12 @@ impl<N: RealmName, S: Spawns<N, JobWork<AnyEnd, N, TestJob>>> Job<AnyEnd, S, N> 
             }
             Duty::Looks { looks } => look(ctx, looks),
             Duty::Waits => wait_until(rt, ctx),
+            Duty::Cancels { scope } => {
+                if cancel_and_look(rt, ctx, scope) {
+                    board.note();
+                }
+                0
+            }
             Duty::LeavesOpen => {
                 let _scope = ctx.open(rt, Joiner::AwaitAll, Options::PLAIN);
                 5

@@ -44,7 +44,7 @@ fn help_once<N: RealmName, R: Wait>(rt: &R, ctx: &mut MainCtx<N>, board: &Shared
 }
 
 /// Does so in each scope: in how many main ran a job. None where one didn't end as it was to, or was not called
-/// just once.
+/// just once; before that three were counted.
 fn help_in_each<N: RealmName, R: Wait>(
     rt: &R,
     ctx: &mut MainCtx<N>,
@@ -56,7 +56,7 @@ fn help_in_each<N: RealmName, R: Wait>(
             helped = helped.saturating_add(1);
         }
     }
-    if board.calls() == u64::from(SCOPES) * u64::from(JOBS) + 1 {
+    if board.calls() == u64::from(SCOPES) * u64::from(JOBS) + 3 {
         Some(helped)
     } else {
         None
@@ -86,6 +86,24 @@ fn run_two<N: RealmName, R: Wait>(rt: &R, ctx: &mut MainCtx<N>, board: &Shared) 
     Some(has_ended && is_called_once && starts_and_ends(&report.log) == (1, 1))
 }
 
+/// Main runs a job itself that cancels its scope: it sees the mark of that. Whether it does; None if a call was refused.
+fn run_cancelled<N: RealmName, R: Wait>(
+    rt: &R,
+    ctx: &mut MainCtx<N>,
+    board: &Shared,
+) -> Option<bool> {
+    let Ok(scope) = ctx.open(rt, Joiner::AwaitAll, Options::PLAIN) else {
+        return None;
+    };
+    let before = board.calls();
+    let job = named(board, Duty::Cancels { scope })?;
+    let Ok(ForkReply::Thread(_task)) = ctx.run_job(rt, scope, job) else {
+        return None;
+    };
+    ctx.close_scope_bare(rt, scope).ok()?;
+    Some(before.checked_add(2) == Some(board.calls()))
+}
+
 /// The same in a realm of its own, over the pool's threads.
 fn in_a_realm<N: RealmName, R: Wait>(
     rt: &R,
@@ -99,7 +117,9 @@ fn in_a_realm<N: RealmName, R: Wait>(
     let threads = pool.threads().ok()?;
     let (realm, token) = Realm::<AnyEnd, N>::new(alloc, seed, Limits::GREATEST).ok()?;
     let mut ctx = TaskCtx::main(alloc, realm, token, threads);
-    let helped = if run_two(rt, &mut ctx, &board) == Some(true) {
+    let has_run = run_two(rt, &mut ctx, &board) == Some(true);
+    let is_marked = has_run && run_cancelled(rt, &mut ctx, &board) == Some(true);
+    let helped = if is_marked {
         help_in_each(rt, &mut ctx, &board)
     } else {
         None
@@ -123,7 +143,7 @@ fn over_a_pool<N: RealmName + Send + Sync + 'static, R: PoolRuntime>(
 }
 
 /// Each job is called once, and main runs some, since a thread that was called comes later: all that there are. First
-/// it forks one to run it itself.
+/// it forks two to run them itself, of which one sees its mark.
 #[test]
 fn main_runs_jobs_that_no_thread_has_taken(rt: HostRuntime) -> Result<(), Fail> {
     let helped = over_a_pool::<Brand, _>(&rt, rt.alloc(), Seed::new(rt.alloc())?);

@@ -1,8 +1,4 @@
-ghost use Rattle.std.specs.Prelude.{OnOk};
-ghost use Rattle.scope_rules.specs.Verdicts.{verdict};
-ghost use Rattle.scope_rules.specs.ClosingLaws.{IsWhole};
-ghost use Rattle.scope_rules.specs.Replies.{next_scope, fork_reply};
-ghost use Rattle.scope_checks.specs.Entering.{Enters, EntersOrMemory, Notes, NotesOrMemory, Retires};
+ghost use Rattle.scope_model.specs.{Enters, EntersOrMemory, IsWhole, Notes, NotesOrMemory, OnOk, Retires, fork_reply, next_scope, verdict};
 
 use crate::plain::evaluator::Plain;
 use scope_checks::table;

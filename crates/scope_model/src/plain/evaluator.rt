@@ -1,8 +1,4 @@
-ghost use Rattle.std.specs.Prelude.{◌≡◌, MatchResult};
-ghost use Rattle.scope_rules.specs.Load.{weight};
-ghost use Rattle.scope_rules.specs.Legal.{Accepts, Legal};
-ghost use Rattle.scope_rules.specs.Replies.{with_event, starting, base_check, base_of, AnswersOrMemory};
-ghost use Rattle.scope_checks.specs.Ruled.{IsRuled};
+ghost use Rattle.scope_model.specs.{◌≡◌, Accepts, AnswersOrMemory, IsRuled, Words.Legal, MatchResult, base_check, base_of, starting, weight, with_event};
 
 use crate::scan::view::HistoryView;
 use scope_journal::{Journal, weight};

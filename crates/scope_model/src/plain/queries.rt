@@ -1,13 +1,5 @@
-ghost use Rattle.std.specs.Prelude.{◌≡◌, ◌+◌, ◌<◌, ◌^◌, length, Ok, IfOk};
-ghost use Rattle.scope_rules.specs.History.{moment};
-ghost use Rattle.scope_rules.specs.Cancels.{cause, cancelled_at, effective};
-ghost use Rattle.scope_rules.specs.Tasks.{stage, state, counts};
-ghost use Rattle.scope_rules.specs.Outcomes.{outcome};
-ghost use Rattle.scope_rules.specs.Checks.{scope_check, task_check};
-ghost use Rattle.scope_rules.specs.Table.{answering, check_of, until_check};
-ghost use Rattle.scope_rules.specs.Replies.{AnswersValue, result_reply, fault_reply, binding_reply, outcome_check};
-ghost use Rattle.scope_log.specs.Log.{log};
-ghost use Rattle.scope_log.specs.Previews.{preview};
+ghost use Rattle.scope_model.specs.{◌+◌, ◌<◌, ◌^◌, ◌≡◌, AnswersValue, IfOk, Ok, answering, binding_reply, cancelled_at, cause, check_of, counts, effective, fault_reply, length, log, moment, outcome};
+ghost use Rattle.scope_model.specs.{outcome_check, preview, result_reply, scope_check, stage, state, task_check, until_check};
 
 use crate::plain::evaluator::Plain;
 use scope_checks::checks::scope_check;

@@ -1,5 +1,4 @@
-ghost use Rattle.std.specs.Prelude.{◌≡◌};
-ghost use Rattle.scope_rules.specs.Nests.{outermost, inner_reply, task_inner_reply, task_at_reply, label_reply, info_reply};
+ghost use Rattle.scope_model.specs.{◌≡◌, info_reply, inner_reply, label_reply, outermost, task_at_reply, task_inner_reply};
 
 use crate::plain::evaluator::Plain;
 use scope_checks::queries;

@@ -1,10 +1,5 @@
-ghost use Rattle.std.specs.Prelude.{◌≡◌, ◌<◌, ◌≤◌, ◌+◌, ◌^◌, ◌++◌, [], length, take, Some, IfSome, IfOk, OnOk, slice_get};
-ghost use Rattle.std.specs.List.{cons_option};
-ghost use Rattle.scope_rules.specs.Replies.{base_of};
-ghost use Rattle.scope_rules.specs.Search.{some_below};
-ghost use Rattle.scope_rules.specs.Bindings.{first_stack, stack, bindings_within, bindings, bound_to, value_under, same_pair, differ_at, same_pairs, bound_as_at, bound_as_opened, opened_above, holds_last};
-ghost use Rattle.scope_rules.specs.History.{scope_numbers};
-ghost use Rattle.scope_rules.specs.StackSteps.{height_after, pair_after};
+ghost use Rattle.scope_model.specs.{[], ◌++◌, ◌+◌, ◌<◌, ◌^◌, ◌≡◌, ◌≤◌, IfOk, IfSome, OnOk, Some, base_of, bindings, bindings_within, bound_as_at, bound_as_opened, bound_to, cons_option, differ_at};
+ghost use Rattle.scope_model.specs.{first_stack, height_after, holds_last, length, opened_above, pair_after, same_pair, same_pairs, scope_numbers, slice_get, some_below, stack, take, value_under};
 
 use crate::scan::view::HistoryView;
 use scope_rules::types::bases::Base;

@@ -1,8 +1,5 @@
-ghost use Rattle.std.specs.Prelude.{◌≡◌, ◌<◌, ◌≤◌, ◌+◌, length, Some, IfSome};
-ghost use Rattle.scope_rules.specs.Search.{last_of, earliest};
-ghost use Rattle.scope_rules.specs.Chains.{outwards, nearer, earliest_on, sooner, least_on};
-ghost use Rattle.scope_rules.specs.Scopes.{outer};
-ghost use Rattle.scope_rules.specs.Cancels.{move_of, deadline, overdue, direct_kind, kind_by, own_at, own, own_cancel, first_cancel, cause, is_cancelled, cancelled_at, cancelled_before, counting_deadline, effective};
+ghost use Rattle.scope_model.specs.{◌+◌, ◌<◌, ◌≡◌, ◌≤◌, IfSome, Some, cancelled_at, cancelled_before, cause, counting_deadline, deadline, direct_kind, earliest, earliest_on, effective, first_cancel};
+ghost use Rattle.scope_model.specs.{is_cancelled, kind_by, last_of, least_on, length, move_of, nearer, outer, outwards, overdue, own, own_at, own_cancel, sooner};
 
 use crate::scan::view::HistoryView;
 use scope_rules::types::answers::{Cause, CauseKind, Effective};

@@ -1,9 +1,5 @@
-ghost use Rattle.std.specs.Prelude.{◌≡◌, ◌<◌, ◌≤◌, ◌^◌, ◌*◌, length, Some, count_by, ◌≤ℤ◌, pos, neg_ℤ};
-ghost use Rattle.std.specs.List.{list_any};
-ghost use Rattle.std.specs.Option.{option_map_or};
-ghost use Rattle.scope_rules.specs.Joining.{fires, meets, has_failed, has_succeeded, total_of, summand_of_end};
-ghost use Rattle.scope_rules.specs.Cancels.{joiner_fires};
-ghost use Rattle.scope_rules.specs.Completions.{is_task_of, completion_of, completions, passes_at, completes};
+ghost use Rattle.scope_model.specs.{◌*◌, ◌<◌, ◌^◌, ◌≡◌, ◌≤ℤ◌, ◌≤◌, Some, completes, completion_of, completions, count_by, fires, has_failed, has_succeeded, is_task_of, joiner_fires, length, list_any};
+ghost use Rattle.scope_model.specs.{meets, neg_ℤ, option_map_or, passes_at, pos, summand_of_end, total_of};
 
 use crate::scan::view::HistoryView;
 use scope_rules::types::events::Event;

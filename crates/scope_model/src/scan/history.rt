@@ -1,6 +1,5 @@
-ghost use Rattle.std.specs.Prelude.{◌≡◌, ◌<◌, ◌+◌, ◌≤◌, ◌^◌, length, Some, IfSome, is_some};
-ghost use Rattle.scope_rules.specs.Search.{earliest, last_of};
-ghost use Rattle.scope_rules.specs.History.{moment, opening, forking, is_open, is_fork, opening_of, forking_of, numbered_at, tick_of};
+ghost use Rattle.scope_model.specs.{◌+◌, ◌<◌, ◌^◌, ◌≡◌, ◌≤◌, IfSome, Some, earliest, forking, forking_of, is_fork, is_open, is_some, last_of, length, moment, numbered_at, opening, opening_of};
+ghost use Rattle.scope_model.specs.{tick_of};
 
 use crate::scan::view::HistoryView;
 use scope_rules::types::events::Event;

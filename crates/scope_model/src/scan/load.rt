@@ -1,5 +1,4 @@
-ghost use Rattle.std.specs.Prelude.{◌≡◌};
-ghost use Rattle.scope_rules.specs.Load.{load};
+ghost use Rattle.scope_model.specs.{◌≡◌, load};
 
 use crate::scan::view::HistoryView;
 use scope_journal::weight;

@@ -1,6 +1,4 @@
-ghost use Rattle.std.specs.Prelude.{◌≡◌, ◌==◌, ◌<◌, ◌^◌, None, length, IfOk, if◌then◌else◌};
-ghost use Rattle.std.specs.Option.{option_and_then};
-ghost use Rattle.scope_log.specs.Log.{is_of, entry_at, mark_of, entries, log};
+ghost use Rattle.scope_model.specs.{◌<◌, ◌==◌, ◌^◌, ◌≡◌, IfOk, None, entries, entry_at, if◌then◌else◌, is_of, length, log, mark_of, option_and_then};
 
 use crate::scan::outcomes::push_some;
 use crate::scan::view::HistoryView;

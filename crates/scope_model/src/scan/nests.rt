@@ -1,6 +1,4 @@
-ghost use Rattle.std.specs.Prelude.{◌≡◌, ◌<◌, slice_get};
-ghost use Rattle.scope_rules.specs.History.{opened_count};
-ghost use Rattle.scope_rules.specs.Nests.{unclosed_after, next_unclosed, outermost, inner, tasks_of};
+ghost use Rattle.scope_model.specs.{◌<◌, ◌≡◌, inner, next_unclosed, opened_count, outermost, slice_get, tasks_of, unclosed_after};
 
 use crate::scan::view::HistoryView;
 use scope_rules::types::values::{Actor, ScopeId, TaskId};

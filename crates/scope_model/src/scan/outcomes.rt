@@ -1,11 +1,5 @@
-ghost use Rattle.std.specs.Prelude.{◌≡◌, ◌<◌, ◌≤◌, ◌+◌, ◌++◌, [], Some, None, length, IfSome, IfOk, OnOk, if◌then◌else◌};
-ghost use Rattle.std.specs.List.{cons_option};
-ghost use Rattle.scope_rules.specs.Answers.{value_in, entry_in};
-ghost use Rattle.scope_rules.specs.Search.{earliest};
-ghost use Rattle.scope_rules.specs.Joining.{has_failed, has_succeeded};
-ghost use Rattle.scope_rules.specs.Completions.{is_task_of};
-ghost use Rattle.scope_rules.specs.Tasks.{state};
-ghost use Rattle.scope_rules.specs.Outcomes.{readable_at, first_read, readable_of, outcome_of, joining_at, joining, outcome};
+ghost use Rattle.scope_model.specs.{[], ◌++◌, ◌+◌, ◌<◌, ◌≡◌, ◌≤◌, IfOk, IfSome, None, OnOk, Some, cons_option, earliest, entry_in, first_read, has_failed, has_succeeded, if◌then◌else◌, is_task_of};
+ghost use Rattle.scope_model.specs.{joining, joining_at, length, outcome, outcome_of, readable_at, readable_of, state, value_in};
 
 use crate::scan::view::HistoryView;
 use scope_rules::joins::{self, TaskReadings, is_available, value_in};

@@ -1,8 +1,5 @@
-ghost use Rattle.std.specs.Prelude.{◌≡◌, ◌<◌, ◌+◌, ◌≤◌, ◌^◌, length, Some, IfSome};
-ghost use Rattle.scope_rules.specs.Search.{latest, some_below};
-ghost use Rattle.scope_rules.specs.History.{opened_count, opening};
-ghost use Rattle.scope_rules.specs.Chains.{outwards};
-ghost use Rattle.scope_rules.specs.Scopes.{joined, closed, unclosed_of, innermost, forked_in, surrounding, around, parent, outer, next_level, have_one_opener, covers, begins_closing, closing_at, closing};
+ghost use Rattle.scope_model.specs.{◌+◌, ◌<◌, ◌^◌, ◌≡◌, ◌≤◌, IfSome, Some, around, begins_closing, closed, closing, closing_at, covers, forked_in, have_one_opener, innermost, joined, latest, length};
+ghost use Rattle.scope_model.specs.{next_level, opened_count, opening, outer, outwards, parent, some_below, surrounding, unclosed_of};
 
 use crate::scan::view::HistoryView;
 use scope_rules::types::events::Event;

@@ -1,8 +1,6 @@
-ghost use Rattle.std.specs.Prelude.{◌≡◌, ◌<◌, ◌≤◌, ◌+◌, ◌^◌, length, Some, IfSome, count_by};
-ghost use Rattle.std.specs.List.{list_all, range_with_len};
-ghost use Rattle.scope_rules.specs.History.{forked_count, task_numbers};
-ghost use Rattle.scope_rules.specs.Completions.{is_task_of};
-ghost use Rattle.scope_rules.specs.Tasks.{rejected, started, finished, ending_of, ending_at, ending, stage_of, stage, is_never, is_waiting, is_running, is_finished, is_settled, state_of, state, is_at, is_stage, counts, is_unsettled, settled};
+ghost use Rattle.scope_model.specs.{◌+◌, ◌<◌, ◌^◌, ◌≡◌, ◌≤◌, IfSome, Some, count_by, counts, ending, ending_at, ending_of, finished, forked_count, is_at, is_finished, is_never, is_running};
+ghost use Rattle.scope_model.specs.{is_settled, is_stage, is_task_of, is_unsettled, is_waiting, length, list_all, range_with_len, rejected, settled, stage, stage_of, started, state, state_of};
+ghost use Rattle.scope_model.specs.{task_numbers};
 
 use crate::scan::view::HistoryView;
 use scope_rules::types::answers::{Counts, Stage, State};

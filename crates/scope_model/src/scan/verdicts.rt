@@ -1,6 +1,4 @@
-ghost use Rattle.std.specs.Prelude.{◌≡◌, ◌<◌, length};
-ghost use Rattle.scope_rules.specs.Tasks.{has_tasks};
-ghost use Rattle.scope_rules.specs.Verdicts.{covers_other, covers_another, begins_for, violating_at, violated, verdict};
+ghost use Rattle.scope_model.specs.{◌<◌, ◌≡◌, begins_for, covers_another, covers_other, has_tasks, length, verdict, violated, violating_at};
 
 use crate::scan::view::HistoryView;
 use scope_rules::types::answers::Verdict;

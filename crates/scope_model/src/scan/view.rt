@@ -1,5 +1,4 @@
-ghost use Rattle.std.specs.Prelude.{◌≡◌, ◌≤◌, ◌<◌, ◌+◌, ◌^◌, length, Some, slice_get, count_by};
-ghost use Rattle.scope_rules.specs.History.{HasSmallNumbers, before, scopes, tasks, opened_count, forked_count, is_open, is_fork};
+ghost use Rattle.scope_model.specs.{◌+◌, ◌<◌, ◌^◌, ◌≡◌, ◌≤◌, HasSmallNumbers, Some, before, count_by, forked_count, is_fork, is_open, length, opened_count, scopes, slice_get, tasks};
 
 use scope_rules::types::bases::Base;
 use scope_rules::types::events::Event;

@@ -1,4 +1,4 @@
-use Rattle.std.proofs.Common.{length}
+use Rattle.command_line.proofs.Words.{length}
 use Rattle.command_line.proofs.application.+with_flags.Given as goal
 
 abbrev pub decreases-with_flags : goal.decreases-with_flags

@@ -1,5 +1,4 @@
-use Rattle.std.proofs.Common.{◌∙◌}
-use Rattle.std.proofs.lemmas.Result.{IfOk-weaker}
+use Rattle.command_line.proofs.Words.{◌∙◌, IfOk-weaker}
 use Rattle.command_line.proofs.Built.{still}
 use Rattle.command_line.proofs.application.+with_options.Goals as goal
 

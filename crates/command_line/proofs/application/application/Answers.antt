@@ -1,8 +1,5 @@
-use Rattle.std.proofs.Common.{◌∙◌, ap}
-use Rattle.std.proofs.lemmas.Result.{IfOk-weaker}
-use Rattle.clap.specs.Words.{App}
-use Rattle.command_line.specs.Application.{scopectl, with_jobs}
-use Rattle.command_line.specs.Jobs.{all_jobs}
+use Rattle.command_line.specs.{App, all_jobs, scopectl, with_jobs}
+use Rattle.command_line.proofs.Words.{◌∙◌, IfOk-weaker, ap}
 use Rattle.command_line.proofs.application.application.Goals as goal
 
 pub returns : goal.returns

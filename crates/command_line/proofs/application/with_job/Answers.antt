@@ -1,6 +1,5 @@
-use Rattle.std.proofs.Common.{◌≡◌, ◌∙◌, ap}
-use Rattle.std.proofs.lemmas.Result.{IfOk-weaker}
-use Rattle.clap.specs.Words.{App, app_of, with_subcommand}
+use Rattle.command_line.specs.{◌≡◌, App, app_of, with_subcommand}
+use Rattle.command_line.proofs.Words.{◌∙◌, IfOk-weaker, ap}
 use Rattle.command_line.proofs.application.with_job.Goals as goal
 
 same_top : (program a b : App) → a ≡ b → with_subcommand program a.top ≡ with_subcommand program b.top

@@ -1,15 +1,6 @@
 -- What is read is what the parse has of the option.
-use Rattle.std.proofs.Common.{◌≡◌, ◌∙◌, ℕ, ap, inl, inr, refl, sym, List, [], Option}
-use Rattle.std.specs.Prelude.{option_map, unwrap_or}
-use Rattle.std.proofs.lemmas.Result.{IfErr-weaker, IfOk-weaker}
-use Rattle.clap.proofs.WalkLemmas.{raw_values-rows}
-use Rattle.clap.specs.Matches.{matched_of, raw_values}
-use Rattle.clap.specs.Walk.{all_of}
-use Rattle.clap.specs.Words.{found_of, rows_of}
-use Rattle.clap.specs.declared.parser.matches.Found.{Found}
-use Rattle.command_line.specs.Delays.{each_said}
-use Rattle.command_line.specs.Settings.{name_of, texts_in}
-use Rattle.command_line.specs.declared.settings.Setting.TheVariants.{After}
+use Rattle.command_line.specs.{[], ℕ, ◌≡◌, After, Found, List, Option, all_of, each_said, found_of, matched_of, name_of, option_map, raw_values, rows_of, texts_in, unwrap_or}
+use Rattle.command_line.proofs.Words.{◌∙◌, IfErr-weaker, IfOk-weaker, ap, inl, inr, raw_values-rows, refl, sym}
 use Rattle.command_line.proofs.delays.delays_in.Goals as goal
 
 same_said : (f : Found) (id : List ℕ) (o : Option (List (List ℕ))) → id ≡ name_of After → o ≡ option_map raw_values (matched_of f id)

@@ -1,7 +1,5 @@
-use Rattle.std.proofs.Common.{◌∙◌, ◌+◌, [], ◌∷◌, ap, inr, map, sym}
-use Rattle.std.specs.Prelude.{option_map}
-use Rattle.std.proofs.lemmas.List.{map-append}
-use Rattle.command_line.specs.Settings.{delay_of}
+use Rattle.command_line.specs.{[], ◌∷◌, delay_of, map, option_map}
+use Rattle.command_line.proofs.Words.{◌+◌, ◌∙◌, ap, inr, map-append, sym}
 use Rattle.command_line.proofs.EachDelay.{behind, each_end, each_none, each_some}
 use Rattle.command_line.proofs.delays.each_delay.Goals as goal
 

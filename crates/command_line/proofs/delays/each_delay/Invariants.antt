@@ -1,7 +1,5 @@
-use Rattle.std.proofs.Common.{◌≡◌, ◌++◌, drop, map}
-use Rattle.std.specs.Prelude.{option_map}
-use Rattle.command_line.specs.Delays.{each_said}
-use Rattle.command_line.specs.Settings.{delay_of}
+use Rattle.command_line.specs.{◌++◌, ◌≡◌, delay_of, each_said, map, option_map}
+use Rattle.command_line.proofs.Words.{drop}
 use Rattle.command_line.proofs.delays.each_delay.Given as goal
 
 -- the texts say what was found, and what the others say

@@ -1,7 +1,5 @@
-use Rattle.std.proofs.Common.{◌∙◌, inl, inr, map}
-use Rattle.std.proofs.lemmas.Result.{IfErr-weaker, IfOk-weaker}
-use Rattle.clap.proofs.WalkLemmas.{both}
-use Rattle.clap.specs.Simple.{subcommand_rows_of}
+use Rattle.command_line.specs.{map, subcommand_rows_of}
+use Rattle.command_line.proofs.Words.{◌∙◌, IfErr-weaker, IfOk-weaker, both, inl, inr}
 use Rattle.command_line.proofs.Parsed.{answers_entered, answers_of, refused_of, says_entered, simple}
 use Rattle.command_line.proofs.lines.line.Goals as goal
 

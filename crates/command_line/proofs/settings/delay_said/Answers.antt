@@ -1,6 +1,5 @@
-use Rattle.std.proofs.Common.{◌∙◌, refl, ap, option_map}
-use Rattle.scope_rules.specs.NameText.{is_name}
-use Rattle.command_line.specs.Settings.{delay_of}
+use Rattle.command_line.specs.{delay_of, is_name, option_map}
+use Rattle.command_line.proofs.Words.{◌∙◌, ap, refl}
 use Rattle.command_line.proofs.Cutting.{cut, not_named, says, uncut, unnamed, unnumbered, whole}
 use Rattle.command_line.proofs.settings.delay_said.Goals as goal
 

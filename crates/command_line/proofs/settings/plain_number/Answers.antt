@@ -1,5 +1,5 @@
-use Rattle.std.proofs.Common.{◌≡◌, ◌∙◌, ℕ, arith, sym, true}
-use Rattle.command_line.specs.Settings.{is_plain}
+use Rattle.command_line.specs.{ℕ, ◌≡◌, is_plain, true}
+use Rattle.command_line.proofs.Words.{◌∙◌, arith, sym}
 use Rattle.command_line.proofs.Numbers.{none_outside, none_read, not_plain, plain_within}
 use Rattle.command_line.proofs.settings.plain_number.Goals as goal
 

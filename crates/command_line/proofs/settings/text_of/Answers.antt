@@ -1,7 +1,6 @@
 -- What is found by a name is what its row has.
-use Rattle.std.proofs.Common.{◌∙◌}
-use Rattle.clap.proofs.WalkLemmas.{first_value-rows}
-use Rattle.clap.specs.Words.{found_of}
+use Rattle.command_line.specs.{found_of}
+use Rattle.command_line.proofs.Words.{◌∙◌, first_value-rows}
 use Rattle.command_line.proofs.settings.text_of.Goals as goal
 
 pub returns : goal.returns

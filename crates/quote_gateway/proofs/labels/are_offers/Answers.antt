@@ -1,8 +1,5 @@
-use Rattle.std.proofs.Common.{length, sym, ◌∙◌, arith}
-use Rattle.std.proofs.lemmas.List.{length-map}
-use Rattle.quote_plan.specs.Plans.{label_of, labels_of}
-use Rattle.quote_plan.proofs.Dues.{agree}
-use Rattle.quote_gateway.specs.Offers.{labels_in}
+use Rattle.quote_gateway.specs.{label_of, labels_in, labels_of}
+use Rattle.quote_gateway.proofs.Words.{◌∙◌, agree, arith, length, length-map, sym}
 use Rattle.quote_gateway.proofs.labels.are_offers.Goals as goal
 
 pub returns : goal.returns

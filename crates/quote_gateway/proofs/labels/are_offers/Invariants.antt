@@ -1,7 +1,6 @@
 -- The labels of the jobs before the index are those of the plan's offers.
-use Rattle.std.proofs.Common.{◌≡◌, ℕ, ◌<◌, slice_get}
-use Rattle.quote_plan.specs.Plans.{labels_of}
-use Rattle.quote_gateway.specs.Offers.{labels_in}
+use Rattle.quote_gateway.specs.{ℕ, ◌<◌, ◌≡◌, labels_in, labels_of}
+use Rattle.quote_gateway.proofs.Words.{slice_get}
 use Rattle.quote_gateway.proofs.labels.are_offers.Given as goal
 
 abbrev pub invariant-loop-index : goal.invariant-loop-index

@@ -1,4 +1,4 @@
-use Rattle.std.proofs.Common.{length}
+use Rattle.quote_gateway.proofs.Words.{length}
 use Rattle.quote_gateway.proofs.offer_jobs.+late_of.Given as goal
 
 abbrev pub decreases-late_of : goal.decreases-late_of

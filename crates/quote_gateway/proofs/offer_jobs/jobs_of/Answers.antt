@@ -1,9 +1,7 @@
-use Rattle.std.proofs.Common.{◌∷◌, [], sym, ◌∙◌, ap}
-use Rattle.std.proofs.lemmas.List.{map-append}
-use Rattle.quote_gateway.specs.Offers.{labels_in}
-use Rattle.quote_gateway.proofs.OfferLabels.{one_label, no_label}
+use Rattle.quote_gateway.specs.{[], ◌∷◌, labels_in}
+use Rattle.quote_gateway.proofs.Words.{◌∙◌, ap, map-append, sym}
+use Rattle.quote_gateway.proofs.{OfferLabels.no_label, OfferLabels.one_label, offer_jobs.jobs_of.Goals.in-Some+in_ok-push, offer_jobs.jobs_of.Goals.in_default}
 use Rattle.quote_gateway.proofs.offer_jobs.jobs_of.Goals as goal
-use Rattle.quote_gateway.proofs.offer_jobs.jobs_of.Goals.{in-Some+in_ok-push, in_default}
 
 pub loop-index-preserved : goal.loop-index-preserved
 loop-index-preserved c =

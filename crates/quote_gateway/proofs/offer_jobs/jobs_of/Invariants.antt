@@ -1,7 +1,6 @@
 -- The labels of the jobs so far are those of the offers before the index.
-use Rattle.std.proofs.Common.{◌≡◌, map, take}
-use Rattle.quote_plan.specs.Plans.{label_of}
-use Rattle.quote_gateway.specs.Offers.{labels_in}
+use Rattle.quote_gateway.specs.{◌≡◌, label_of, labels_in, map}
+use Rattle.quote_gateway.proofs.Words.{take}
 use Rattle.quote_gateway.proofs.offer_jobs.jobs_of.Given as goal
 
 abbrev pub invariant-loop-index : goal.invariant-loop-index

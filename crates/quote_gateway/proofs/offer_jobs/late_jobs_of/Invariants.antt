@@ -1,7 +1,6 @@
 -- The labels of the jobs so far are those of the offers before the place.
-use Rattle.std.proofs.Common.{◌≡◌, map, take}
-use Rattle.quote_plan.specs.Plans.{label_of}
-use Rattle.quote_gateway.specs.Offers.{labels_in}
+use Rattle.quote_gateway.specs.{◌≡◌, label_of, labels_in, map}
+use Rattle.quote_gateway.proofs.Words.{take}
 use Rattle.quote_gateway.proofs.offer_jobs.late_jobs_of.Given as goal
 
 abbrev pub invariant-loop-place : goal.invariant-loop-place

@@ -1,5 +1,4 @@
-use Rattle.quote_gateway.proofs.Asking.{here_still}
-use Rattle.quote_gateway.proofs.Closing.{ends_after, reported_ends, stays_keeps}
+use Rattle.quote_gateway.proofs.{Asking.here_still, Closing.ends_after, Closing.reported_ends, Closing.stays_keeps}
 use Rattle.quote_gateway.proofs.requests.close_scope.Goals as goal
 
 pub returns-in-Ok-clause-ends : goal.returns-in-Ok-clause-ends

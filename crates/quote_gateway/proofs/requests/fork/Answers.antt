@@ -1,5 +1,5 @@
-use Rattle.std.proofs.Common.{Ok, Err, ◌∙◌}
-use Rattle.job_runner.specs.Forks.{why_of}
+use Rattle.quote_gateway.specs.{Err, why_of}
+use Rattle.quote_gateway.proofs.Words.{◌∙◌, Ok}
 use Rattle.quote_gateway.proofs.Turned.{fork_keeps, fork_refused}
 use Rattle.quote_gateway.proofs.requests.fork.Goals as goal
 

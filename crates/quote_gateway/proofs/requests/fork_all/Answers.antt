@@ -1,14 +1,6 @@
-use Rattle.std.proofs.Common.{◌≡◌, ◌∷◌, ◌++◌, List, Result, Ok, Err, sym, ap, ◌∙◌, subst, append_assoc, []}
-use Rattle.std.specs.Prelude.{IfErr}
-use Rattle.std.specs.Result.{IsErrAnd}
-use Rattle.scope_rules.specs.Ends.{LabelValue}
-use Rattle.share_ledger.specs.Named.{NamedValue}
-use Rattle.quote_gateway.specs.Going.{nests, HasForked, ForkTurnedDown, IsTurnedDown}
-use Rattle.quote_gateway.specs.Offers.{labels_in}
-use Rattle.quote_gateway.proofs.Going.{begins_going, sees_on, tokens_on}
-use Rattle.quote_gateway.proofs.Asking.{forked_next}
-use Rattle.quote_gateway.proofs.Reading.{chosen}
-use Rattle.quote_gateway.proofs.Turned.{fork_turned}
+use Rattle.quote_gateway.specs.{[], ◌++◌, ◌∷◌, ◌≡◌, Err, ForkTurnedDown, HasForked, IfErr, IsErrAnd, IsTurnedDown, LabelValue, List, NamedValue, Result, labels_in, nests}
+use Rattle.quote_gateway.proofs.Words.{◌∙◌, Ok, ap, append_assoc, subst, sym}
+use Rattle.quote_gateway.proofs.{Asking.forked_next, Going.begins_going, Going.sees_on, Going.tokens_on, Reading.chosen, Turned.fork_turned}
 use Rattle.quote_gateway.proofs.requests.fork_all.Goals as goal
 
 -- the label of the next job is the next of all

@@ -1,9 +1,5 @@
 -- The token has only seen more, the scope stands open, and its tasks are those of the jobs so far.
-use Rattle.std.proofs.Common.{◌≡◌, ◌++◌, List}
-use Rattle.scope_rules.specs.Ends.{LabelValue}
-use Rattle.realm_core.specs.Calls.{SeesMore}
-use Rattle.quote_gateway.specs.Going.{HasForked, KeepsScopes}
-use Rattle.quote_gateway.specs.Offers.{labels_in}
+use Rattle.quote_gateway.specs.{◌++◌, ◌≡◌, HasForked, KeepsScopes, LabelValue, List, SeesMore, labels_in}
 use Rattle.quote_gateway.proofs.requests.fork_all.Given as goal
 
 abbrev pub invariant-loop-job : goal.invariant-loop-job

@@ -1,14 +1,7 @@
-use Rattle.std.proofs.Common.{IsTrue, false, Ok, Err, refl}
-use Rattle.scope_rules.specs.Answers.{listing_by}
-use Rattle.scope_rules.specs.Tasks.{state}
-use Rattle.realm_core.specs.Calls.{history_seen}
-use Rattle.quote_plan.specs.Plans.{labels_of}
-use Rattle.quote_gateway.specs.Going.{shapes}
-use Rattle.quote_gateway.proofs.Going.{begins_same, tokens_on}
-use Rattle.quote_gateway.proofs.Asking.{forked_still}
-use Rattle.quote_gateway.proofs.Reading.{joined_here, outcome_still}
-use Rattle.quote_gateway.proofs.Turned.{join_keeps, join_refused}
+use Rattle.quote_gateway.specs.{Err, IsTrue, false, history_seen, labels_of, listing_by, shapes, state}
+use Rattle.quote_gateway.proofs.Words.{Ok, refl}
 use Rattle.quote_gateway.proofs.Requested.{by_join, found_earlier, turned_none}
+use Rattle.quote_gateway.proofs.{Asking.forked_still, Going.begins_same, Going.tokens_on, Reading.joined_here, Reading.outcome_still, Turned.join_keeps, Turned.join_refused}
 use Rattle.quote_gateway.proofs.requests.join_and_answer.Goals as goal
 
 pub returns-in-Err-clause-keeps : goal.returns-in-Err-clause-keeps

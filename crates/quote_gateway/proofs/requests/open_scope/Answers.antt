@@ -1,11 +1,5 @@
-use Rattle.std.proofs.Common.{Err, subst}
-use Rattle.scope_rules.specs.declared.types.events.Event.TheVariants.{Open}
-use Rattle.scope_rules.specs.declared.types.joiners.Policy.{Policy}
-use Rattle.scope_rules.specs.Replies.{next_scope}
-use Rattle.share_ledger.specs.declared.steps.RealmStep.TheVariants.{Happened}
-use Rattle.job_runner.specs.Rooms.{DoesInRoom}
-use Rattle.quote_plan.specs.Plans.{policy_of}
-use Rattle.quote_gateway.specs.Going.{Opens}
+use Rattle.quote_gateway.specs.{DoesInRoom, Err, Happened, Open, Opens, Policy, next_scope, policy_of}
+use Rattle.quote_gateway.proofs.Words.{subst}
 use Rattle.quote_gateway.proofs.Turned.{opens_none}
 use Rattle.quote_gateway.proofs.requests.open_scope.Goals as goal
 

@@ -1,8 +1,5 @@
-use Rattle.scope_rules.specs.Checks.{task_check}
-use Rattle.scope_rules.specs.Tasks.{state}
-use Rattle.realm_core.specs.Calls.{history_seen}
-use Rattle.quote_gateway.proofs.Going.{looked}
-use Rattle.quote_gateway.proofs.Reading.{never_refused, task_known}
+use Rattle.quote_gateway.specs.{history_seen, state, task_check}
+use Rattle.quote_gateway.proofs.{Going.looked, Reading.never_refused, Reading.task_known}
 use Rattle.quote_gateway.proofs.requests.state_of.Goals as goal
 
 -- a task of an open scope is known, so its state is not refused

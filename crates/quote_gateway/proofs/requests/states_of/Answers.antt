@@ -1,8 +1,6 @@
-use Rattle.std.proofs.Common.{◌∙◌, sym}
-use Rattle.realm_core.specs.Calls.{history_seen}
-use Rattle.quote_gateway.specs.Going.{shapes}
-use Rattle.quote_gateway.proofs.Going.{sees_on, tokens_on}
-use Rattle.quote_gateway.proofs.Reading.{front_still, joined_still, read_next, task_at}
+use Rattle.quote_gateway.specs.{history_seen, shapes}
+use Rattle.quote_gateway.proofs.Words.{◌∙◌, sym}
+use Rattle.quote_gateway.proofs.{Going.sees_on, Going.tokens_on, Reading.front_still, Reading.joined_still, Reading.read_next, Reading.task_at}
 use Rattle.quote_gateway.proofs.requests.states_of.Goals as goal
 
 pub state_of-read-requires : goal.state_of-read-requires

@@ -1,9 +1,6 @@
-use Rattle.realm_core.specs.Calls.{history_seen}
-use Rattle.quote_plan.specs.Plans.{policy_of}
-use Rattle.quote_gateway.specs.Requests.{IsTold}
-use Rattle.quote_gateway.proofs.Telling.{on_ok_then, told_over}
+use Rattle.quote_gateway.specs.{IsTold, history_seen, policy_of}
 use Rattle.quote_gateway.proofs.Asking.{here_inside, opened_for, opened_here}
-use Rattle.quote_gateway.proofs.Requested.{begins_new, left_new, new_is, served}
+use Rattle.quote_gateway.proofs.{Requested.begins_new, Requested.left_new, Requested.new_is, Requested.served, Telling.on_ok_then, Telling.told_over}
 use Rattle.quote_gateway.proofs.serving.ask.Goals as goal
 
 pub find-found-requires-clause-empty : goal.find-found-requires-clause-empty

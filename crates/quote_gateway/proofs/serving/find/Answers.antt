@@ -1,10 +1,6 @@
-use Rattle.std.proofs.Common.{List, subst}
-use Rattle.scope_rules.specs.Ends.{LabelValue}
-use Rattle.quote_gateway.specs.Going.{nests, ForkTurnedDown, IsTurnedDown}
-use Rattle.quote_gateway.proofs.Asking.{here_inside}
-use Rattle.quote_gateway.proofs.Going.{begins_going, scopes_kept, tokens_on}
-use Rattle.quote_gateway.proofs.Requested.{fork_none, found_earlier}
-use Rattle.quote_gateway.proofs.Timed.{none_later, turned_call}
+use Rattle.quote_gateway.specs.{ForkTurnedDown, IsTurnedDown, LabelValue, List, nests}
+use Rattle.quote_gateway.proofs.Words.{subst}
+use Rattle.quote_gateway.proofs.{Asking.here_inside, Going.begins_going, Going.scopes_kept, Going.tokens_on, Requested.fork_none, Requested.found_earlier, Timed.none_later, Timed.turned_call}
 use Rattle.quote_gateway.proofs.serving.find.Goals as goal
 
 pub returns-in-Ok-clause-keeps : goal.returns-in-Ok-clause-keeps

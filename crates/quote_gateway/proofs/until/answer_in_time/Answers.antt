@@ -1,18 +1,8 @@
-use Rattle.std.proofs.Common.{IsTrue, Ok, Err, refl}
-use Rattle.scope_rules.specs.Answers.{listing_by}
-use Rattle.scope_rules.specs.Tasks.{state}
-use Rattle.realm_core.specs.Calls.{history_seen}
-use Rattle.quote_plan.specs.Allowed.{HasExpired}
-use Rattle.quote_plan.specs.Plans.{labels_of}
-use Rattle.quote_gateway.specs.Going.{shapes}
-use Rattle.quote_gateway.specs.Requests.{IsTold}
-use Rattle.quote_gateway.proofs.Going.{begins_going, begins_same, sees_on, tokens_on}
-use Rattle.quote_gateway.proofs.Asking.{forked_still, here_still}
-use Rattle.quote_gateway.proofs.Reading.{joined_still, outcome_still}
+use Rattle.quote_gateway.specs.{Err, HasExpired, IsTold, IsTrue, history_seen, labels_of, listing_by, shapes, state}
+use Rattle.quote_gateway.proofs.Words.{Ok, refl}
 use Rattle.quote_gateway.proofs.Requested.{by_join, found_earlier, none_earlier, turned_none}
-use Rattle.quote_gateway.proofs.Telling.{on_ok_so, told_still}
-use Rattle.quote_gateway.proofs.Timed.{joined_by, joined_keeps, joined_none, none_later}
-use Rattle.quote_gateway.proofs.Turned.{pulse_refused}
+use Rattle.quote_gateway.proofs.{Asking.forked_still, Asking.here_still, Going.begins_going, Going.begins_same, Going.sees_on, Going.tokens_on, Reading.joined_still, Reading.outcome_still}
+use Rattle.quote_gateway.proofs.{Telling.on_ok_so, Telling.told_still, Timed.joined_by, Timed.joined_keeps, Timed.joined_none, Timed.none_later, Turned.pulse_refused}
 use Rattle.quote_gateway.proofs.until.answer_in_time.Goals as goal
 
 -- ---- the join was refused

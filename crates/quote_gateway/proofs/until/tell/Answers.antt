@@ -1,6 +1,4 @@
-use Rattle.quote_gateway.proofs.Turned.{pulse_keeps}
-use Rattle.quote_gateway.proofs.Telling.{pulse_told}
-use Rattle.quote_gateway.proofs.Timed.{back_told}
+use Rattle.quote_gateway.proofs.{Telling.pulse_told, Timed.back_told, Turned.pulse_keeps}
 use Rattle.quote_gateway.proofs.until.tell.Goals as goal
 
 pub returns-in-Ok-clause-keeps : goal.returns-in-Ok-clause-keeps

@@ -1,9 +1,7 @@
-use Rattle.std.proofs.Common.{List, take, sym, subst, arith}
-use Rattle.quote_plan.specs.Allowed.{IsBestOf, quotes_in}
-use Rattle.quote_plan.proofs.Prices.{no_quote, one_quote, all_quotes, start}
-use Rattle.quote_plan.specs.declared.answers.Quote.{Quote}
+use Rattle.quote_plan.specs.{IsBestOf, List, Quote, quotes_in, take}
+use Rattle.quote_plan.proofs.Words.{arith, subst, sym}
+use Rattle.quote_plan.proofs.{Prices.all_quotes, Prices.no_quote, Prices.one_quote, Prices.start, choosing.best_quote.Goals.in-Some, choosing.best_quote.Goals.in_default}
 use Rattle.quote_plan.proofs.choosing.best_quote.Goals as goal
-use Rattle.quote_plan.proofs.choosing.best_quote.Goals.{in-Some, in_default}
 
 pub loop-index-preserved : goal.loop-index-preserved
 loop-index-preserved c =

@@ -1,6 +1,5 @@
 -- The best of the offers before the index.
-use Rattle.std.proofs.Common.{take}
-use Rattle.quote_plan.specs.Allowed.{IsBestOf, quotes_in}
+use Rattle.quote_plan.specs.{IsBestOf, quotes_in, take}
 use Rattle.quote_plan.proofs.choosing.best_quote.Given as goal
 
 abbrev pub invariant-loop-index : goal.invariant-loop-index

@@ -1,9 +1,7 @@
-use Rattle.std.proofs.Common.{Option, subst, rules, arith, w64, SFits, ◌≤ℤ◌, ◌<ℤ◌}
-use Rattle.std.proofs.lemmas.Int.{ints}
-use Rattle.quote_plan.specs.Allowed.{IsBestOf}
-use Rattle.quote_plan.proofs.Best.{stays_best, new_best, only_best}
+use Rattle.quote_plan.specs.{◌<ℤ◌, ◌≤ℤ◌, IsBestOf, Option, Quote}
+use Rattle.quote_plan.proofs.Words.{SFits, arith, ints, rules, subst, w64}
+use Rattle.quote_plan.proofs.Best.{new_best, only_best, stays_best}
 use Rattle.quote_plan.proofs.choosing.better.Goals as goal
-use Rattle.quote_plan.specs.declared.answers.Quote.{Quote}
 
 pub returns-then-best-quote : goal.returns-then-best-quote
 returns-then-best-quote c quotes is =

@@ -1,7 +1,7 @@
-use Rattle.std.proofs.Common.{◌∷◌, [], ◌++◌, sym, ◌∙◌, ap, arith}
-use Rattle.quote_plan.proofs.Prices.{no_quote, one_quote, all_quotes, start}
+use Rattle.quote_plan.specs.{[], ◌++◌, ◌∷◌}
+use Rattle.quote_plan.proofs.Words.{◌∙◌, ap, arith, sym}
+use Rattle.quote_plan.proofs.{Prices.all_quotes, Prices.no_quote, Prices.one_quote, Prices.start, choosing.quotes.Goals.in-Some+in_ok-push, choosing.quotes.Goals.in_default}
 use Rattle.quote_plan.proofs.choosing.quotes.Goals as goal
-use Rattle.quote_plan.proofs.choosing.quotes.Goals.{in-Some+in_ok-push, in_default}
 
 pub loop-index-preserved : goal.loop-index-preserved
 loop-index-preserved c =

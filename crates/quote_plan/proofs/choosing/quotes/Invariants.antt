@@ -1,6 +1,5 @@
 -- The prices of the offers before the index.
-use Rattle.std.proofs.Common.{◌≡◌, take}
-use Rattle.quote_plan.specs.Allowed.{quotes_in}
+use Rattle.quote_plan.specs.{◌≡◌, quotes_in, take}
 use Rattle.quote_plan.proofs.choosing.quotes.Given as goal
 
 abbrev pub invariant-loop-index : goal.invariant-loop-index

@@ -1,8 +1,7 @@
-use Rattle.std.proofs.Common.{◌≡◌, Some, ◌∷◌, [], ◌++◌, length, slice_get, refl, sym, ◌∙◌, ap, arith}
-use Rattle.std.proofs.lemmas.Option.{slice_get_read}
-use Rattle.quote_plan.proofs.Prices.{none_there, one_there, whole_there, start_there}
+use Rattle.quote_plan.specs.{[], ◌++◌, ◌∷◌, ◌≡◌, Some, length, slice_get}
+use Rattle.quote_plan.proofs.Words.{◌∙◌, ap, arith, refl, slice_get_read, sym}
+use Rattle.quote_plan.proofs.{Prices.none_there, Prices.one_there, Prices.start_there, Prices.whole_there, choosing.quotes_so_far.Goals.in-Some+in_ok-push, choosing.quotes_so_far.Goals.in_default}
 use Rattle.quote_plan.proofs.choosing.quotes_so_far.Goals as goal
-use Rattle.quote_plan.proofs.choosing.quotes_so_far.Goals.{in-Some+in_ok-push, in_default}
 
 pub loop-index-init : goal.loop-index-init
 loop-index-init c = c.new-quotes.ensures.items ∙ sym (start_there [] [])

@@ -1,5 +1,5 @@
-use Rattle.std.proofs.Common.{sym, ◌∙◌}
-use Rattle.quote_plan.specs.Cutting.{is_feed}
+use Rattle.quote_plan.specs.{is_feed}
+use Rattle.quote_plan.proofs.Words.{◌∙◌, sym}
 use Rattle.quote_plan.proofs.Cuts.{cut_at, cut_first, no_feed}
 use Rattle.quote_plan.proofs.cutting.first_line.Goals as goal
 

@@ -1,8 +1,5 @@
-use Rattle.std.proofs.Common.{length, sym, ◌∙◌, below_more, arith}
-use Rattle.std.proofs.lemmas.List.{length-map}
-use Rattle.quote_plan.specs.Plans.{Named}
-use Rattle.scope_rules.specs.declared.types.outcomes.TaskState.{TaskState}
-use Rattle.quote_plan.specs.Answering.{states_of, dues_of, state_due}
+use Rattle.quote_plan.specs.{Named, TaskState, dues_of, length, state_due, states_of}
+use Rattle.quote_plan.proofs.Words.{◌∙◌, arith, below_more, length-map, sym}
 use Rattle.quote_plan.proofs.Dues.{agree, differ, state_at}
 use Rattle.quote_plan.proofs.ends.are_due.Goals as goal
 

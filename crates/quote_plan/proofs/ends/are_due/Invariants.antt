@@ -1,6 +1,5 @@
 -- The tasks before the index ended as their offers say.
-use Rattle.std.proofs.Common.{◌≡◌, ℕ, ◌<◌, slice_get}
-use Rattle.quote_plan.specs.Answering.{states_of, dues_of}
+use Rattle.quote_plan.specs.{ℕ, ◌<◌, ◌≡◌, dues_of, slice_get, states_of}
 use Rattle.quote_plan.proofs.ends.are_due.Given as goal
 
 abbrev pub invariant-loop-index : goal.invariant-loop-index

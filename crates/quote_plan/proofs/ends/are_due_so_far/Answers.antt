@@ -1,6 +1,5 @@
-use Rattle.std.proofs.Common.{◌≡◌, true, inl, inr, length, sym, ◌∙◌, below_more, arith}
-use Rattle.std.proofs.lemmas.Bool.{eqb-true, eq-eqb}
-use Rattle.scope_rules.specs.declared.types.outcomes.TaskState.{TaskState}
+use Rattle.quote_plan.specs.{◌≡◌, TaskState, length, true}
+use Rattle.quote_plan.proofs.Words.{◌∙◌, arith, below_more, eq-eqb, eqb-true, inl, inr, sym}
 use Rattle.quote_plan.proofs.Dues.{state_at}
 use Rattle.quote_plan.proofs.ends.are_due_so_far.Goals as goal
 

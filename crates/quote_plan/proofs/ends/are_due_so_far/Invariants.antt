@@ -1,7 +1,5 @@
 -- The tasks before the index ended as their offers say, if they have ended.
-use Rattle.std.proofs.Common.{◌≡◌, ◌⊎◌, ℕ, ◌<◌, slice_get, Some}
-use Rattle.scope_rules.specs.declared.types.answers.State.TheVariants.{Unavailable}
-use Rattle.quote_plan.specs.Answering.{states_of, dues_of}
+use Rattle.quote_plan.specs.{ℕ, ◌<◌, ◌≡◌, ◌⊎◌, Some, Unavailable, dues_of, slice_get, states_of}
 use Rattle.quote_plan.proofs.ends.are_due_so_far.Given as goal
 
 abbrev pub invariant-loop-index : goal.invariant-loop-index

@@ -1,26 +1,22 @@
-use Rattle.std.proofs.Common.{length, sym, ◌∙◌, below_more, arith}
-use Rattle.std.proofs.lemmas.List.{length-map}
-use Rattle.quote_plan.specs.Plans.{Named}
-use Rattle.scope_rules.specs.declared.types.outcomes.TaskValue.{TaskValue}
-use Rattle.scope_rules.specs.declared.types.answers.State.TheVariants as state
-use Rattle.quote_plan.specs.Answering.{states_of_values, dues_of, state_due}
+use Rattle.quote_plan.specs.{Named, State, TaskValue, dues_of, length, state_due, states_of_values}
+use Rattle.quote_plan.proofs.Words.{◌∙◌, arith, below_more, length-map, sym}
 use Rattle.quote_plan.proofs.Dues.{agree, differ, state_at}
 use Rattle.quote_plan.proofs.ends.are_due_values.Goals as goal
 
 pub loop-index-preserved : goal.loop-index-preserved
 loop-index-preserved c =
     let task = c.index-values-index.result in
-    let here = state_at (λ (t : TaskValue). state.Success t.value) c.args.values.now c.loop-index.index task c.loop-index-test.true c.index-values-index.is in
+    let here = state_at (λ (t : TaskValue). State.Success t.value) c.args.values.now c.loop-index.index task c.loop-index-test.true c.index-values-index.is in
     below_more _ _ c.loop-index.invariant (here ∙ sym (c.is_due_at.ensures.0 c.if-not-is_due_at.false))
 
 pub returns-then-not-is_due_at : goal.returns-then-not-is_due_at
 returns-then-not-is_due_at c =
     let task = c.index-values-index.result in
-    let here = state_at (λ (t : TaskValue). state.Success t.value) c.args.values.now c.loop-index.index task c.loop-index-test.true c.index-values-index.is in
+    let here = state_at (λ (t : TaskValue). State.Success t.value) c.args.values.now c.loop-index.index task c.loop-index-test.true c.index-values-index.is in
     (λ no. absurd cc, λ due. absurd (differ (states_of_values c.args.values.now) (dues_of c.args.plan.now.offers) c.loop-index.index _ c.is_due_at.result here c.if-not-is_due_at.true c.is_due_at.ensures due))
 
 pub returns : goal.returns
 returns c =
     let tasks = c.args.values.now in
     let offers = c.args.plan.now.offers in
-    agree (states_of_values tasks) (dues_of offers) (length tasks) c.len.result (length-map tasks (λ (t : TaskValue). state.Success t.value)) (length-map offers (λ (e : Named). state_due e.1) ∙ sym c.len.ensures) (λ k below. c.loop-index.invariant k (omega arith))
+    agree (states_of_values tasks) (dues_of offers) (length tasks) c.len.result (length-map tasks (λ (t : TaskValue). State.Success t.value)) (length-map offers (λ (e : Named). state_due e.1) ∙ sym c.len.ensures) (λ k below. c.loop-index.invariant k (omega arith))

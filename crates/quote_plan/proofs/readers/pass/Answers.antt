@@ -1,8 +1,6 @@
-use Rattle.std.proofs.Common.{◌∙◌, Ok, ap, rules, sym}
-use Rattle.quote_plan.specs.PlanWhys.{why_of}
-use Rattle.quote_plan.specs.ReadSoFar.{ReadingValue, may_come, with_line}
-use Rattle.quote_plan.proofs.Standing.{bad_alike, says_same}
-use Rattle.quote_plan.proofs.Passing.{names_line, passes}
+use Rattle.quote_plan.specs.{Ok, ReadingValue, may_come, why_of, with_line}
+use Rattle.quote_plan.proofs.Words.{◌∙◌, ap, rules, sym}
+use Rattle.quote_plan.proofs.{Passing.names_line, Passing.passes, Standing.bad_alike, Standing.says_same}
 use Rattle.quote_plan.proofs.readers.pass.Goals as goal
 
 pub returns-in-Ok-false-clause-bad : goal.returns-in-Ok-false-clause-bad

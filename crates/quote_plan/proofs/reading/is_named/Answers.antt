@@ -1,6 +1,6 @@
 -- The map tells names apart by all that they are made of.
-use Rattle.std.proofs.Common.{◌∙◌}
-use Rattle.quote_plan.proofs.Names.{found_is_named, fields_tell}
+use Rattle.quote_plan.proofs.Words.{◌∙◌}
+use Rattle.quote_plan.proofs.Names.{fields_tell, found_is_named}
 use Rattle.quote_plan.proofs.reading.is_named.Goals as goal
 
 pub returns : goal.returns

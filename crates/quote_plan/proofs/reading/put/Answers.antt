@@ -1,6 +1,6 @@
 -- The map keeps the order in which names came.
-use Rattle.std.proofs.Common.{◌∙◌}
-use Rattle.quote_plan.proofs.Names.{new_goes_last, fields_tell}
+use Rattle.quote_plan.proofs.Words.{◌∙◌}
+use Rattle.quote_plan.proofs.Names.{fields_tell, new_goes_last}
 use Rattle.quote_plan.proofs.reading.put.Goals as goal
 
 pub returns : goal.returns

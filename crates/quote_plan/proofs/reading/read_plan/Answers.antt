@@ -1,11 +1,8 @@
-use Rattle.std.proofs.Common.{◌≡◌, [], ◌∷◌, Ok, refl, sym, ◌∙◌, ap, arith}
-use Rattle.quote_plan.specs.PlanReading.{lines_of}
-use Rattle.quote_plan.specs.PlanWhys.{why_of}
-use Rattle.quote_plan.specs.ReadSoFar.{ReadingValue}
-use Rattle.quote_plan.proofs.Causes.{nothing_cut, cut_on, why_here, why_there, last_cut, last_none}
-use Rattle.quote_plan.proofs.Progress.{nothing_read, next_line, goes_on, first_bad, refused, cut_line, no_line, no_mode, all_said}
+use Rattle.quote_plan.specs.{[], ◌∷◌, ◌≡◌, BadWord, Ok, ReadingValue, lines_of, why_of}
+use Rattle.quote_plan.proofs.Words.{◌∙◌, ap, arith, refl, sym}
+use Rattle.quote_plan.proofs.Causes.{cut_on, last_cut, last_none, nothing_cut, why_here, why_there}
+use Rattle.quote_plan.proofs.Progress.{all_said, cut_line, first_bad, goes_on, next_line, no_line, no_mode, nothing_read, refused}
 use Rattle.quote_plan.proofs.reading.read_plan.Goals as goal
-use Rattle.quote_plan.specs.declared.lines.PlanLine.TheVariants.{BadWord}
 
 pub loop-text-init : goal.loop-text-init
 loop-text-init c = record {

@@ -1,7 +1,6 @@
 -- The lines before the rest were read.
-use Rattle.std.proofs.Common.{◌+◌, ◌≤◌, length}
-use Rattle.quote_plan.proofs.Causes.{HasCut}
-use Rattle.quote_plan.proofs.Progress.{HasRead}
+use Rattle.quote_plan.specs.{◌+◌, ◌≤◌, length}
+use Rattle.quote_plan.proofs.{Causes.HasCut, Progress.HasRead}
 use Rattle.quote_plan.proofs.reading.read_plan.Given as goal
 
 abbrev pub invariant-loop-text : goal.invariant-loop-text

@@ -1,8 +1,5 @@
-use Rattle.std.proofs.Common.{◌≡◌, Some, ◌∙◌, ap, rules}
-use Rattle.std.specs.Prelude.{is_none}
-use Rattle.script_words.specs.Fields.{fields}
-use Rattle.quote_plan.specs.PlanWhys.{why_of_offer}
-use Rattle.quote_plan.specs.declared.whys.PlanWhy.TheVariants.{NoForm, BadName}
+use Rattle.quote_plan.specs.{◌≡◌, BadName, NoForm, Some, fields, is_none, why_of_offer}
+use Rattle.quote_plan.proofs.Words.{◌∙◌, ap, rules}
 use Rattle.quote_plan.proofs.GoodForms.{offer_tells}
 use Rattle.quote_plan.proofs.whys.why_of_offer.Goals as goal
 

@@ -1,4 +1,4 @@
-use Rattle.std.proofs.Common.{length}
+use Rattle.refusal_reasons.specs.{length}
 use Rattle.refusal_reasons.proofs.causes.+first_strange.Given as goal
 
 abbrev pub decreases-first_strange : goal.decreases-first_strange

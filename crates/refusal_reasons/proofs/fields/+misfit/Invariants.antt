@@ -1,4 +1,4 @@
-use Rattle.std.proofs.Common.{length}
+use Rattle.refusal_reasons.specs.{length}
 use Rattle.refusal_reasons.proofs.fields.+misfit.Given as goal
 
 abbrev pub decreases-misfit : goal.decreases-misfit

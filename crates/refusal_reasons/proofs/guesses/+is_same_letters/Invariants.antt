@@ -1,4 +1,4 @@
-use Rattle.std.proofs.Common.{length}
+use Rattle.refusal_reasons.specs.{length}
 use Rattle.refusal_reasons.proofs.guesses.+is_same_letters.Given as goal
 
 abbrev pub decreases-is_same_letters : goal.decreases-is_same_letters

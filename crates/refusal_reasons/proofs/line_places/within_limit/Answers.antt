@@ -1,6 +1,5 @@
 -- Where there are no more bytes than a line may have, all are shown.
-use Rattle.std.proofs.Common.{arith, sym}
-use Rattle.std.proofs.lemmas.List.{length-take-le, take_all}
+use Rattle.refusal_reasons.proofs.Lemmas.{arith, length-take-le, sym, take_all}
 use Rattle.refusal_reasons.proofs.line_places.within_limit.Goals as goal
 
 pub slice_bounds-result-end : goal.slice_bounds-result-end

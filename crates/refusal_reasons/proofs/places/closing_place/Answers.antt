@@ -1,10 +1,7 @@
 -- The walk sees each close that covers the scope.
-use Rattle.std.proofs.Common.{◌≡◌, ◌<◌, None, IfSome, length, ap, sym, subst, ◌∙◌}
-use Rattle.scope_rules.specs.History.{History}
-use Rattle.scope_rules.specs.Legal.{Legal}
-use Rattle.scope_rules.specs.Nests.{inner}
-use Rattle.refusal_reasons.specs.Places.{begun_place, earlier, if_after}
-use Rattle.refusal_reasons.proofs.Closings.{Seen, none_seen, one_seen, fewer_left, numbers_left, first_within, ends_seen, passed_seen, never_closing}
+use Rattle.refusal_reasons.specs.{◌<◌, ◌≡◌, History, IfSome, Legal, None, begun_place, earlier, if_after, inner, length}
+use Rattle.refusal_reasons.proofs.Lemmas.{◌∙◌, ap, subst, sym}
+use Rattle.refusal_reasons.proofs.Closings.{Seen, ends_seen, fewer_left, first_within, never_closing, none_seen, numbers_left, one_seen, passed_seen}
 use Rattle.refusal_reasons.proofs.places.closing_place.Goals as goal
 
 pub returns-in_default-clause-place : goal.returns-in_default-clause-place

@@ -1,8 +1,5 @@
 -- No task so far waits or runs.
-use Rattle.std.proofs.Common.{◌≡◌, None, take}
-use Rattle.std.specs.List.{find}
-use Rattle.scope_rules.specs.Nests.{tasks_of}
-use Rattle.refusal_reasons.specs.Places.{is_pending}
+use Rattle.refusal_reasons.specs.{◌≡◌, None, find, is_pending, take, tasks_of}
 use Rattle.refusal_reasons.proofs.places.pending_task.Given as goal
 
 abbrev pub invariant-loop-index : goal.invariant-loop-index

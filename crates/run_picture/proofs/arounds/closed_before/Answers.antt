@@ -1,7 +1,6 @@
 -- A scope is closed where its first close stands before the place.
-use Rattle.std.proofs.Common.{ℕ, ◌∙◌, sym, ap, false, nat_lt, Option}
-use Rattle.std.specs.Option.{option_map_or}
-use Rattle.run_picture.proofs.Searched.{closed_at_place, kept_first}
+use Rattle.run_picture.specs.{ℕ, Option, false, nat_lt, option_map_or}
+use Rattle.run_picture.proofs.Lemmas.{◌∙◌, ap, closed_at_place, kept_first, sym}
 use Rattle.run_picture.proofs.arounds.closed_before.Goals as goal
 
 pub returns-in-Some : goal.returns-in-Some

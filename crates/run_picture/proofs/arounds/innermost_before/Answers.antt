@@ -1,6 +1,6 @@
 -- The search goes on from a closed candidate, and ends at one that isn't, or at none.
-use Rattle.std.proofs.Common.{◌∙◌, sym}
-use Rattle.run_picture.proofs.Searched.{candidate_there, candidate_opened, step_found, step_none, step_next, step_smaller}
+use Rattle.run_picture.proofs.Lemmas.{◌∙◌, sym}
+use Rattle.run_picture.proofs.Searched.{candidate_opened, candidate_there, step_found, step_next, step_none, step_smaller}
 use Rattle.run_picture.proofs.arounds.innermost_before.Goals as goal
 
 pub closed_before-requires-clause-opened : goal.closed_before-requires-clause-opened

@@ -1,6 +1,5 @@
 -- What the actor had opened behind the candidate is closed.
-use Rattle.std.proofs.Common.{unwrap_or}
-use Rattle.run_picture.specs.Arounds.{IsSearched}
+use Rattle.run_picture.specs.{IsSearched, unwrap_or}
 use Rattle.run_picture.proofs.arounds.innermost_before.Given as goal
 
 abbrev pub invariant-loop-candidate : goal.invariant-loop-candidate

@@ -1,7 +1,6 @@
 -- The search begins at the actor's last scope, which the new one then is.
-use Rattle.std.proofs.Common.{length, subst, sym, arith}
-use Rattle.scope_rules.proofs.Earlier.{opening_within}
-use Rattle.run_picture.specs.Arounds.{AreOwns, IsLastOf}
+use Rattle.run_picture.specs.{AreOwns, IsLastOf, length}
+use Rattle.run_picture.proofs.Lemmas.{arith, opening_within, subst, sym}
 use Rattle.run_picture.proofs.Searched.{opened_then, searched_first}
 use Rattle.run_picture.proofs.arounds.next_own.Goals as goal
 

@@ -1,8 +1,6 @@
 -- The scope's place among those since the base.
-use Rattle.std.proofs.Common.{◌≡◌, arith, ◌∙◌, ◌-◌, ap, get_or, None}
-use Rattle.scope_rules.specs.History.{before}
-use Rattle.run_picture.specs.Arounds.{own_around}
-use Rattle.run_picture.proofs.Searched.{index_of}
+use Rattle.run_picture.specs.{◌-◌, ◌≡◌, None, before, get_or, own_around}
+use Rattle.run_picture.proofs.Lemmas.{◌∙◌, ap, arith, index_of}
 use Rattle.run_picture.proofs.arounds.outwards.Goals as goal
 
 pub overflow_sub-result : goal.overflow_sub-result

@@ -1,8 +1,6 @@
 -- The scope's place among those since the base.
-use Rattle.std.proofs.Common.{◌≡◌, arith, ◌∙◌, ◌-◌, ap, ◌<◌, length, get_or, None}
-use Rattle.std.proofs.lemmas.List.{get_or_default}
-use Rattle.run_picture.specs.Arounds.{own_around}
-use Rattle.run_picture.proofs.Searched.{index_of}
+use Rattle.run_picture.specs.{◌-◌, ◌<◌, ◌≡◌, None, get_or, length, own_around}
+use Rattle.run_picture.proofs.Lemmas.{◌∙◌, ap, arith, get_or_default, index_of}
 use Rattle.run_picture.proofs.arounds.own_of.Goals as goal
 
 pub overflow_sub-scope : goal.overflow_sub-scope

@@ -1,8 +1,8 @@
 -- At first there is none.
-use Rattle.std.proofs.Common.{nat_eq, length, ap, arith}
-use Rattle.std.proofs.lemmas.Grind.{common_steps}
-use Rattle.std.specs.HashMap as hash
+use Rattle.run_picture.specs.{length, nat_eq}
+use Rattle.run_picture.proofs.Lemmas.{ap, arith, common_steps}
 use Rattle.run_picture.proofs.Searched.{last_none}
+use Rattle.std.specs.HashMap as hash
 use Rattle.run_picture.proofs.arounds.owns_of.Goals as goal
 
 pub loop-index-init : goal.loop-index-init

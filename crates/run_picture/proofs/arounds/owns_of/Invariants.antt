@@ -1,7 +1,6 @@
 -- Those of the scopes so far.
-use Rattle.std.proofs.Common.{nat_eq}
+use Rattle.run_picture.specs.{AreLasts, AreOwns, nat_eq}
 use Rattle.std.specs.HashMap as hash
-use Rattle.run_picture.specs.Arounds.{AreLasts, AreOwns}
 use Rattle.run_picture.proofs.arounds.owns_of.Given as goal
 
 abbrev pub invariant-loop-index : goal.invariant-loop-index

@@ -1,9 +1,5 @@
 -- The marks so far.
-use Rattle.std.proofs.Common.{◌≡◌, ◌++◌, string_bytes}
-use Rattle.std.specs.List.{range_with_len}
-use Rattle.run_picture.specs.Axis.{axis_mark, mark_in}
-use Rattle.run_picture.specs.Parts.{all, written}
-use Rattle.run_picture.specs.Sheet.{sheet_of}
+use Rattle.run_picture.specs.{◌++◌, ◌≡◌, all, axis_mark, mark_in, range_with_len, sheet_of, string_bytes, written}
 use Rattle.run_picture.proofs.axis.append_marks.Given as goal
 
 abbrev pub invariant-loop-index : goal.invariant-loop-index

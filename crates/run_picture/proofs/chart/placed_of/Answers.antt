@@ -1,9 +1,7 @@
 -- The keys are those of nodes, and the tables those of their forest.
-use Rattle.std.proofs.Common.{◌++◌, ◌∙◌, ap, subst}
-use Rattle.run_picture.specs.Chart.{children, chosen_rows}
-use Rattle.run_picture.specs.Forest.{IsForestOf}
-use Rattle.run_picture.proofs.Noded.{keys_are}
-use Rattle.run_picture.proofs.Showing.{child_table, sibling_table}
+use Rattle.run_picture.specs.{◌++◌, IsForestOf, children, chosen_rows}
+use Rattle.run_picture.proofs.Lemmas.{◌∙◌, ap, subst}
+use Rattle.run_picture.proofs.{Noded.keys_are, Showing.child_table, Showing.sibling_table}
 use Rattle.run_picture.proofs.chart.placed_of.Goals as goal
 
 pub forest_of-requires : goal.forest_of-requires

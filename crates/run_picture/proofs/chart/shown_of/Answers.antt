@@ -1,8 +1,6 @@
 -- At first none is shown; and one row more.
-use Rattle.std.proofs.Common.{◌∙◌, arith, get_or, None}
-use Rattle.std.proofs.lemmas.Option.{slice_get-get_or}
-use Rattle.scope_rules.specs.Search.{earliest}
-use Rattle.run_picture.specs.declared.rows.Row.{Row}
+use Rattle.run_picture.specs.{None, Row, earliest, get_or}
+use Rattle.run_picture.proofs.Lemmas.{◌∙◌, arith, slice_get-get_or}
 use Rattle.run_picture.proofs.Showing.{shown_more}
 use Rattle.run_picture.proofs.chart.shown_of.Goals as goal
 

@@ -1,5 +1,5 @@
 -- Those of the scopes so far.
-use Rattle.run_picture.specs.Closings.{AreClosings}
+use Rattle.run_picture.specs.{AreClosings}
 use Rattle.run_picture.proofs.closings.closings_of.Given as goal
 
 abbrev pub invariant-loop-index : goal.invariant-loop-index

@@ -1,7 +1,6 @@
 -- What lies around the scope is its parent.
-use Rattle.std.proofs.Common.{is_some, ap, sym, ◌∙◌}
-use Rattle.std.specs.Option.{option_and_then}
-use Rattle.scope_rules.specs.Scopes.{around, parent}
+use Rattle.run_picture.specs.{around, is_some, option_and_then, parent}
+use Rattle.run_picture.proofs.Lemmas.{◌∙◌, ap, sym}
 use Rattle.run_picture.proofs.Covered.{begins_there}
 use Rattle.run_picture.proofs.columns.scope_row.Goals as goal
 

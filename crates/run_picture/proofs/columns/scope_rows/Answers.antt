@@ -1,8 +1,6 @@
 -- Each number since the base has its row.
-use Rattle.std.proofs.Common.{◌≡◌, ◌+◌, ◌++◌, ◌∷◌, [], None, is_some, length, slice_get, length-append, ap, sym, subst, ◌∙◌, arith}
-use Rattle.scope_rules.specs.History.{opening}
-use Rattle.run_picture.specs.declared.columns.ScopeRow.{ScopeRow}
-use Rattle.run_picture.specs.Columns.{IsScopeRow}
+use Rattle.run_picture.specs.{[], ◌++◌, ◌+◌, ◌∷◌, ◌≡◌, IsScopeRow, None, ScopeRow, is_some, length, opening, slice_get}
+use Rattle.run_picture.proofs.Lemmas.{◌∙◌, ap, arith, length-append, subst, sym}
 use Rattle.run_picture.proofs.Existing.{opened_there, rows_more}
 use Rattle.run_picture.proofs.columns.scope_rows.Goals as goal
 

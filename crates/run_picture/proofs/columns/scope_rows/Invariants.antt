@@ -1,5 +1,5 @@
 -- The rows of the scopes so far.
-use Rattle.run_picture.specs.Columns.{AreScopeRows}
+use Rattle.run_picture.specs.{AreScopeRows}
 use Rattle.run_picture.proofs.columns.scope_rows.Given as goal
 
 abbrev pub invariant-loop-index : goal.invariant-loop-index

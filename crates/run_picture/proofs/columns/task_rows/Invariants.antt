@@ -1,5 +1,5 @@
 -- The rows of the tasks so far.
-use Rattle.run_picture.specs.Columns.{AreTaskRows}
+use Rattle.run_picture.specs.{AreTaskRows}
 use Rattle.run_picture.proofs.columns.task_rows.Given as goal
 
 abbrev pub invariant-loop-index : goal.invariant-loop-index

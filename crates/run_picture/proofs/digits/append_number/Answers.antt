@@ -1,6 +1,6 @@
 -- A digit more, and the rest without it.
-use Rattle.std.proofs.Common.{◌≡◌, ◌++◌, ◌∷◌, ◌+◌, ◌%◌, ◌/◌, [], ℕ, List, string_bytes, ap, sym, ◌∙◌, append_assoc, arith}
-use Rattle.run_picture.specs.Digits.{number_text}
+use Rattle.run_picture.specs.{[], ℕ, ◌%◌, ◌++◌, ◌+◌, ◌/◌, ◌∷◌, ◌≡◌, List, number_text, string_bytes}
+use Rattle.run_picture.proofs.Lemmas.{◌∙◌, ap, append_assoc, arith, sym}
 use Rattle.run_picture.proofs.Written.{number_last, number_more}
 use Rattle.run_picture.proofs.digits.append_number.Goals as goal
 

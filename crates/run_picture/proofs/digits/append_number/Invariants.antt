@@ -1,6 +1,5 @@
 -- What is written and the rest give the whole.
-use Rattle.std.proofs.Common.{◌≡◌, ◌++◌, string_bytes}
-use Rattle.run_picture.specs.Digits.{number_text}
+use Rattle.run_picture.specs.{◌++◌, ◌≡◌, number_text, string_bytes}
 use Rattle.run_picture.proofs.digits.append_number.Given as goal
 
 abbrev pub invariant-loop-rest : goal.invariant-loop-rest

@@ -1,6 +1,5 @@
 -- The numbers so far.
-use Rattle.std.proofs.Common.{◌≡◌, ◌++◌, get_or, string_bytes}
-use Rattle.run_picture.specs.Digits.{each_text, number_text}
+use Rattle.run_picture.specs.{◌++◌, ◌≡◌, each_text, get_or, number_text, string_bytes}
 use Rattle.run_picture.proofs.digits.append_numbers.Given as goal
 
 abbrev pub invariant-loop-index : goal.invariant-loop-index

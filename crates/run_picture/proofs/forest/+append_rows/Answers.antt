@@ -1,7 +1,7 @@
 -- One row more, with what lies below it; and none are left at the end.
-use Rattle.std.proofs.Common.{◌≡◌, arith, ap, ◌∙◌}
-use Rattle.run_picture.specs.Forest.{rows_from}
-use Rattle.run_picture.proofs.Planted.{rows_step, rows_end, rows_none, rows_zero}
+use Rattle.run_picture.specs.{◌≡◌, rows_from}
+use Rattle.run_picture.proofs.Lemmas.{◌∙◌, ap, arith}
+use Rattle.run_picture.proofs.Planted.{rows_end, rows_none, rows_step, rows_zero}
 use Rattle.run_picture.proofs.forest.+append_rows.Goals as goal
 
 pub loop-left-preserved : goal.loop-left-preserved

@@ -1,6 +1,5 @@
 -- The rows so far, and those that follow.
-use Rattle.std.proofs.Common.{◌≡◌, ◌≤◌, ◌++◌}
-use Rattle.run_picture.specs.Forest.{rows_from}
+use Rattle.run_picture.specs.{◌++◌, ◌≡◌, ◌≤◌, rows_from}
 use Rattle.run_picture.proofs.forest.+append_rows.Given as goal
 
 abbrev pub decreases-append_rows : goal.decreases-append_rows

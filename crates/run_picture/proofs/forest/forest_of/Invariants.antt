@@ -1,5 +1,5 @@
 -- The nodes from here on are in the tables.
-use Rattle.run_picture.specs.Forest.{IsPartOf}
+use Rattle.run_picture.specs.{IsPartOf}
 use Rattle.run_picture.proofs.forest.forest_of.Given as goal
 
 abbrev pub invariant-loop-node : goal.invariant-loop-node

@@ -1,5 +1,5 @@
 -- Nothing so far.
-use Rattle.run_picture.specs.Forest.{IsNothings}
+use Rattle.run_picture.specs.{IsNothings}
 use Rattle.run_picture.proofs.forest.nothings.Given as goal
 
 abbrev pub invariant-loop : goal.invariant-loop

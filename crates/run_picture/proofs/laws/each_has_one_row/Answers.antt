@@ -1,5 +1,5 @@
 -- Each node is placed once.
-use Rattle.run_picture.proofs.Rooted.{each_placed, each_task, each_scope}
+use Rattle.run_picture.proofs.Rooted.{each_placed, each_scope, each_task}
 use Rattle.run_picture.proofs.laws.each_has_one_row.Goals as goal
 
 pub returns-clause-placed : goal.returns-clause-placed

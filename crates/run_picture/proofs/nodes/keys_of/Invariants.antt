@@ -1,7 +1,5 @@
 -- Those of the tasks so far, and then those of the scopes so far.
-use Rattle.std.proofs.Common.{◌≡◌, ◌++◌}
-use Rattle.scope_rules.specs.History.{forked_count}
-use Rattle.run_picture.specs.Nodes.{task_keys, scope_keys}
+use Rattle.run_picture.specs.{◌++◌, ◌≡◌, forked_count, scope_keys, task_keys}
 use Rattle.run_picture.proofs.nodes.keys_of.Given as goal
 
 abbrev pub invariant-loop-index : goal.invariant-loop-index

@@ -1,7 +1,5 @@
 -- Those so far.
-use Rattle.std.proofs.Common.{◌≡◌, ◌++◌, string_bytes}
-use Rattle.run_picture.specs.Digits.{each_text}
-use Rattle.run_picture.specs.Page.{scope_text}
+use Rattle.run_picture.specs.{◌++◌, ◌≡◌, each_text, scope_text, string_bytes}
 use Rattle.run_picture.proofs.page.append_scopes.Given as goal
 
 abbrev pub invariant-loop-index : goal.invariant-loop-index

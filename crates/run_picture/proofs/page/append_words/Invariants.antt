@@ -1,7 +1,5 @@
 -- Those so far.
-use Rattle.std.proofs.Common.{◌≡◌, ◌++◌, string_bytes}
-use Rattle.run_picture.specs.Digits.{each_text}
-use Rattle.run_picture.specs.Page.{word_at}
+use Rattle.run_picture.specs.{◌++◌, ◌≡◌, each_text, string_bytes, word_at}
 use Rattle.run_picture.proofs.page.append_words.Given as goal
 
 abbrev pub invariant-loop-index : goal.invariant-loop-index

@@ -1,13 +1,6 @@
 -- The parts, one after the other.
-use Rattle.std.proofs.Common.{◌≡◌, ℕ, ◌++◌, List, string_bytes, append_assoc, ap, sym, subst, ◌∙◌}
-use Rattle.scope_rules.specs.declared.types.events.Event.{Event}
-use Rattle.run_picture.specs.declared.columns.TaskRow.{TaskRow}
-use Rattle.run_picture.specs.declared.page_drawing.TheConstants.{PAGE_DRAWING}
-use Rattle.run_picture.specs.declared.page_head.TheConstants.{PAGE_HEAD}
-use Rattle.run_picture.specs.declared.page_model.TheConstants.{PAGE_MODEL}
-use Rattle.run_picture.specs.declared.words.Wanted.TheVariants as wanted
-use Rattle.run_picture.specs.Page.{columns_text, lines_text, rows_text}
-use Rattle.run_picture.specs.Words.{AreWordsOf}
+use Rattle.run_picture.specs.{ℕ, ◌++◌, ◌≡◌, AreWordsOf, Event, List, PAGE_DRAWING, PAGE_HEAD, PAGE_MODEL, TaskRow, Wanted, columns_text, lines_text, rows_text}
+use Rattle.run_picture.proofs.Lemmas.{◌∙◌, ap, append_assoc, subst}
 use Rattle.run_picture.proofs.page.page_of.Goals as goal
 
 joined : (head lines rows model drawing a b c d e : List ℕ) → a ≡ head → b ≡ a ++ lines → c ≡ b ++ rows → d ≡ c ++ model → e ≡ d ++ drawing → e ≡ head ++ ((lines ++ rows) ++ (model ++ drawing))
@@ -31,8 +24,8 @@ returns g c =
       columns = columns;
       are = c.in_ok-columns.ensures;
       names = names;
-      named = subst (λ (rows : List TaskRow). AreWordsOf names wanted.Name rows) c.deref.ensures.value c.in_ok-names.ensures;
+      named = subst (λ (rows : List TaskRow). AreWordsOf names Wanted.Name rows) c.deref.ensures.value c.in_ok-names.ensures;
       values = values;
-      valued = subst (λ (rows : List TaskRow). AreWordsOf values wanted.Value rows) c.deref-2.ensures.value c.in_ok-values.ensures;
+      valued = subst (λ (rows : List TaskRow). AreWordsOf values Wanted.Value rows) c.deref-2.ensures.value c.in_ok-values.ensures;
       is = whole ∙ (ap (λ es. text es c.args.moment) c.requires.events ∙ ap (λ m. text h.events m) c.requires.moment);
     }

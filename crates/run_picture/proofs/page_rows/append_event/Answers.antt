@@ -1,11 +1,7 @@
 -- Another event is not written.
-use Rattle.std.proofs.Common.{◌≡◌, ℕ, ◌++◌, ◌∷◌, [], Option, None, Some, List, length, slice_get, string_bytes, append-nil, refl, ap, sym, ◌∙◌}
-use Rattle.std.proofs.lemmas.Option.{slice_get_read}
-use Rattle.std.specs.Option.{option_map_or}
-use Rattle.scope_rules.specs.declared.types.events.Event.{Event}
-use Rattle.scope_rules.specs.History.{tick_of}
-use Rattle.run_picture.specs.Digits.{numbers_text, small_place}
-use Rattle.run_picture.specs.Page.{event_numbers, event_text, moved, moved_numbers}
+use Rattle.run_picture.specs.{[], ℕ, ◌++◌, ◌∷◌, ◌≡◌, Event, List, None, Some, event_numbers, event_text, length, moved, moved_numbers, numbers_text, option_map_or, slice_get, small_place}
+use Rattle.run_picture.specs.{string_bytes, tick_of}
+use Rattle.run_picture.proofs.Lemmas.{◌∙◌, ap, append-nil, refl, slice_get_read, sym}
 use Rattle.run_picture.proofs.Written.{each_none}
 use Rattle.run_picture.proofs.page_rows.append_event.Goals as goal
 

@@ -1,9 +1,5 @@
 -- Those with the numbers so far.
-use Rattle.std.proofs.Common.{◌≡◌, ◌++◌, ◌+◌, string_bytes}
-use Rattle.std.specs.List.{range_with_len}
-use Rattle.run_picture.specs.Cancels.{cancel_figures}
-use Rattle.run_picture.specs.Drawing.{all, shown}
-use Rattle.run_picture.specs.Sheet.{sheet_of}
+use Rattle.run_picture.specs.{◌++◌, ◌+◌, ◌≡◌, all, cancel_figures, range_with_len, sheet_of, shown, string_bytes}
 use Rattle.run_picture.proofs.picture.append_cancels.Given as goal
 
 abbrev pub invariant-loop-index : goal.invariant-loop-index

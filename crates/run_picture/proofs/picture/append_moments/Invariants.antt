@@ -1,9 +1,5 @@
 -- Those so far.
-use Rattle.std.proofs.Common.{◌≡◌, ◌++◌, string_bytes}
-use Rattle.std.specs.List.{range_with_len}
-use Rattle.run_picture.specs.Events.{moment_line}
-use Rattle.run_picture.specs.Drawing.{all, shown}
-use Rattle.run_picture.specs.Sheet.{sheet_of}
+use Rattle.run_picture.specs.{◌++◌, ◌≡◌, all, moment_line, range_with_len, sheet_of, shown, string_bytes}
 use Rattle.run_picture.proofs.picture.append_moments.Given as goal
 
 abbrev pub invariant-loop-place : goal.invariant-loop-place

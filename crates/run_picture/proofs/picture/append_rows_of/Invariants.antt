@@ -1,9 +1,5 @@
 -- Those so far.
-use Rattle.std.proofs.Common.{◌≡◌, ◌++◌, string_bytes}
-use Rattle.std.specs.List.{range_with_len}
-use Rattle.run_picture.specs.Picture.{row_at}
-use Rattle.run_picture.specs.Drawing.{all, shown}
-use Rattle.run_picture.specs.Sheet.{sheet_of}
+use Rattle.run_picture.specs.{◌++◌, ◌≡◌, all, range_with_len, row_at, sheet_of, shown, string_bytes}
 use Rattle.run_picture.proofs.picture.append_rows_of.Given as goal
 
 abbrev pub invariant-loop-index : goal.invariant-loop-index

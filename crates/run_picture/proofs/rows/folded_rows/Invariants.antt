@@ -1,7 +1,7 @@
 -- The rows so far.
-use Rattle.std.proofs.Common.{◌≡◌, [], take}
-use Rattle.run_picture.specs.Rows.{folded_from}
+use Rattle.run_picture.specs.{[], ◌≡◌, folded_from}
+use Rattle.run_picture.proofs.Lemmas.{take}
 use Rattle.run_picture.proofs.rows.folded_rows.Given as goal
 
 abbrev pub invariant-loop-one : goal.invariant-loop-one
-invariant-loop-one g l = l.rows.items ≡ folded_from (g.R.Readings.history l.readings) [] (take l.one-index l.placed)
+invariant-loop-one g l = l.rows.items ≡ folded_from (g.R.Readings.history l.readings) l.many [] (take l.one-index l.placed)

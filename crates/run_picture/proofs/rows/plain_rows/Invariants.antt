@@ -1,6 +1,6 @@
 -- The rows so far.
-use Rattle.std.proofs.Common.{◌≡◌, map, take}
-use Rattle.run_picture.specs.Rows.{plain}
+use Rattle.run_picture.specs.{◌≡◌, map, plain}
+use Rattle.run_picture.proofs.Lemmas.{take}
 use Rattle.run_picture.proofs.rows.plain_rows.Given as goal
 
 abbrev pub invariant-loop-one : goal.invariant-loop-one

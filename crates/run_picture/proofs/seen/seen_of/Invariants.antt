@@ -1,6 +1,6 @@
 -- The nodes so far.
-use Rattle.std.proofs.Common.{◌≡◌, take}
-use Rattle.run_picture.specs.Seen.{seen_rows}
+use Rattle.run_picture.specs.{◌≡◌, seen_rows}
+use Rattle.run_picture.proofs.Lemmas.{take}
 use Rattle.run_picture.proofs.seen.seen_of.Given as goal
 
 abbrev pub invariant-loop-one : goal.invariant-loop-one

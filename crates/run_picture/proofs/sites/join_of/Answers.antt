@@ -1,13 +1,10 @@
 -- The place that is kept is the first one.
-use Rattle.std.proofs.Common.{sym}
-use Rattle.scope_rules.specs.History.{opened_count}
-use Rattle.run_picture.proofs.Searched.{index_of}
-use Rattle.run_picture.proofs.Showing.{kept_place}
-use Rattle.run_picture.specs.declared.landmarks.Landmark.TheVariants as landmark
+use Rattle.run_picture.specs.{Landmark, opened_count}
+use Rattle.run_picture.proofs.Lemmas.{index_of, kept_place, sym}
 use Rattle.run_picture.proofs.sites.join_of.Goals as goal
 
 pub returns : goal.returns
 returns g c =
     let h = g.R.Readings.history c.args.readings.now in
     let it = index_of h c.args.scope c.requires.opened in
-    kept_place c.args.chart.now.joins landmark.Joined h.events h.base.scopes (opened_count h) it.0 c.args.scope c.place.result c.requires.chart.joins (sym it.2) it.1 c.place.ensures
+    kept_place c.args.chart.now.joins Landmark.Joined h.events h.base.scopes (opened_count h) it.0 c.args.scope c.place.result c.requires.chart.joins (sym it.2) it.1 c.place.ensures

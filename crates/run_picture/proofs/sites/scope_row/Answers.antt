@@ -1,12 +1,6 @@
 -- The row that is kept for the node is the first one.
-use Rattle.std.proofs.Common.{◌≡◌, ◌<◌, ℕ, ◌∙◌, Option, cond, length, None, arith, ap, sym}
-use Rattle.std.proofs.lemmas.Bool.{lt-ltb}
-use Rattle.std.proofs.lemmas.List.{get_or_default}
-use Rattle.scope_rules.specs.History.{History}
-use Rattle.run_picture.specs.Chart.{drawn_rows, row_of}
-use Rattle.run_picture.specs.Nodes.{node_count, scope_node}
-use Rattle.run_picture.specs.Sheet.{Sheet, sheet_of}
-use Rattle.run_picture.specs.Sites.{scope_row}
+use Rattle.run_picture.specs.{ℕ, ◌<◌, ◌≡◌, History, None, Option, Sheet.Sheet, cond, drawn_rows, length, node_count, row_of, scope_node, scope_row, sheet_of}
+use Rattle.run_picture.proofs.Lemmas.{◌∙◌, ap, arith, get_or_default, lt-ltb, sym}
 use Rattle.run_picture.proofs.sites.scope_row.Goals as goal
 
 row_is : (h : History) (d : Sheet) (s n : ℕ) (o : Option ℕ) → n ≡ scope_node h s → n < node_count h → o ≡ row_of (drawn_rows h d) n → o ≡ scope_row h d s

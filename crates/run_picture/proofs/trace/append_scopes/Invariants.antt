@@ -1,8 +1,5 @@
 -- Those with the numbers so far.
-use Rattle.std.proofs.Common.{◌≡◌, ◌++◌, ◌+◌, string_bytes}
-use Rattle.std.specs.List.{range_with_len}
-use Rattle.run_picture.specs.Parts.{all, written}
-use Rattle.run_picture.specs.Trace.{record_text, scope_records}
+use Rattle.run_picture.specs.{◌++◌, ◌+◌, ◌≡◌, all, range_with_len, record_text, scope_records, string_bytes, written}
 use Rattle.run_picture.proofs.trace.append_scopes.Given as goal
 
 abbrev pub invariant-loop-index : goal.invariant-loop-index

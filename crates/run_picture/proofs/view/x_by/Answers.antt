@@ -1,5 +1,6 @@
 -- The product of a time and a width is small.
-use Rattle.std.proofs.Common.{◌-◌, ◌≤◌, mul-le-mul, arith}
+use Rattle.run_picture.specs.{◌-◌, ◌≤◌}
+use Rattle.run_picture.proofs.Lemmas.{arith, mul-le-mul}
 use Rattle.run_picture.proofs.view.x_by.Goals as goal
 
 pub overflow_mul-result : goal.overflow_mul-result

@@ -1,12 +1,6 @@
 -- The words that were found stay, and one more is found.
-use Rattle.std.proofs.Common.{◌≡◌, ℕ, ◌+◌, ◌<◌, ◌++◌, ◌∷◌, [], Option, Some, None, List, length, slice_get, get_or, length-append, refl, ap, sym, subst, ◌∙◌, arith, inl, inr}
-use Rattle.std.proofs.lemmas.Bool.{cases_eq}
-use Rattle.std.proofs.lemmas.List.{get_or_append_left, get_or-append-add}
-use Rattle.std.proofs.lemmas.Option.{slice_get_read}
-use Rattle.scope_rules.specs.declared.types.values.Value.{Value}
-use Rattle.run_picture.specs.declared.columns.TaskRow.{TaskRow}
-use Rattle.run_picture.specs.declared.words.Wanted.{Wanted}
-use Rattle.run_picture.specs.Words.{AreWordsTo, Finds, word_of}
+use Rattle.run_picture.specs.{[], ℕ, ◌++◌, ◌+◌, ◌<◌, ◌∷◌, ◌≡◌, AreWordsTo, Finds, List, Option, Some, TaskRow, Value, Wanted, get_or, length, slice_get, word_of}
+use Rattle.run_picture.proofs.Lemmas.{◌∙◌, ap, arith, cases_eq, get_or-append-add, get_or_append_left, inl, inr, length-append, refl, slice_get_read, subst, sym}
 use Rattle.run_picture.proofs.words.words_of.Goals as goal
 
 finds_still : (old new : List Value) (n : ℕ) (word : Option Value) → ((i : ℕ) (v : Value) → slice_get old i ≡ Some v → slice_get new i ≡ Some v) → Finds old n word → Finds new n word

@@ -1,5 +1,5 @@
 -- Those of the rows so far.
-use Rattle.run_picture.specs.Words.{AreWordsTo}
+use Rattle.run_picture.specs.{AreWordsTo}
 use Rattle.run_picture.proofs.words.words_of.Given as goal
 
 abbrev pub invariant-loop-row : goal.invariant-loop-row

@@ -1,8 +1,6 @@
-use Rattle.std.proofs.Common.{inl, inr, refl}
-use Rattle.command_line.specs.declared.lines.CommandLine.TheVariants as line
-use Rattle.scopectl.specs.declared.fault.ProgramFault.TheVariants.{Memory, Write}
-use Rattle.scopectl.proofs.Acted.{words_ask, words_say, words_say_none}
-use Rattle.scopectl.proofs.Jobs.{names_alone, names_weaker, well_ended}
+use Rattle.scopectl.specs.{CommandLine, Memory, Write}
+use Rattle.scopectl.proofs.Words.{inl, inr, refl}
+use Rattle.scopectl.proofs.{Acted.words_ask, Acted.words_say, Acted.words_say_none, Jobs.names_alone, Jobs.names_weaker, Jobs.well_ended}
 use Rattle.scopectl.proofs.act.act.Goals as goal
 
 pub returns-in-Ok-Replay-clause-done : goal.returns-in-Ok-Replay-clause-done
@@ -47,7 +45,7 @@ returns-in-Ok-Quote-clause-fault g c = λ e. inr (inr (record { command = _; sai
 
 pub returns-in-Ok-Quote-clause-named : goal.returns-in-Ok-Quote-clause-named
 returns-in-Ok-Quote-clause-named g c =
-    λ e. inl (names_weaker _ _ _ _ _ _ _ _ (λ f it. (record { command = line.Quote c.in-Ok-Quote.deadline c.in-Ok-Quote.after c.in-Ok-Quote.tree_after; said = words_say _ c.args.said c.requires.read _ _ c.in-Ok-Quote.is c.in-Ok-Quote.field-0-is; is = it })) (c.quote.ensures.named e))
+    λ e. inl (names_weaker _ _ _ _ _ _ _ _ (λ f it. (record { command = CommandLine.Quote c.in-Ok-Quote.deadline c.in-Ok-Quote.after c.in-Ok-Quote.tree_after; said = words_say _ c.args.said c.requires.read _ _ c.in-Ok-Quote.is c.in-Ok-Quote.field-0-is; is = it })) (c.quote.ensures.named e))
 
 pub returns-in-Err-Help-clause-done : goal.returns-in-Err-Help-clause-done
 returns-in-Err-Help-clause-done g c = λ e f. (let none = well_ended _ c.tell.ensures.status e in inl (

@@ -1,8 +1,5 @@
-use Rattle.std.proofs.Common.{subst, inr, string_bytes, ℕ}
-use Rattle.std.specs.Io.KnownBytes.{Appends}
-use Rattle.scope_script.specs.Streams.{AppendsPart}
-use Rattle.script_jobs.specs.Made.{IsScript}
-use Rattle.scopectl.specs.declared.fault.ProgramFault.TheVariants.{Memory, Write}
+use Rattle.scopectl.specs.{ℕ, Appends, AppendsPart, IsScript, Memory, Write, string_bytes}
+use Rattle.scopectl.proofs.Words.{inr, subst}
 use Rattle.scopectl.proofs.act.generate.Goals as goal
 
 pub returns-in-Ok-clause-done : goal.returns-in-Ok-clause-done

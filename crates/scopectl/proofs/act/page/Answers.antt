@@ -1,7 +1,5 @@
-use Rattle.std.proofs.Common.{◌≡◌, ◌∙◌, ◌⊎◌, true, false, sym, ap, subst, Err}
-use Rattle.scopectl.specs.Naming.{CameFrom}
-use Rattle.scopectl.specs.declared.fault.ProgramFault.{ProgramFault}
-use Rattle.scopectl.specs.declared.fault.ProgramFault.TheVariants.{Write}
+use Rattle.scopectl.specs.{◌≡◌, ◌⊎◌, CameFrom, Err, ProgramFault, Write, false, true}
+use Rattle.scopectl.proofs.Words.{◌∙◌, ap, subst, sym}
 use Rattle.scopectl.proofs.Jobs.{came_of, page_made, page_stopped, page_told_part, page_whole, read_is_other, sound_at, write_is_other}
 use Rattle.scopectl.proofs.act.page.Goals as goal
 

@@ -1,4 +1,4 @@
-use Rattle.scopectl.specs.declared.fault.ProgramFault.TheVariants.{Write}
+use Rattle.scopectl.specs.{Write}
 use Rattle.scopectl.proofs.act.quote.Goals as goal
 
 pub returns-in-Ok-clause-named : goal.returns-in-Ok-clause-named

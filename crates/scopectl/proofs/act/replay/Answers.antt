@@ -1,5 +1,5 @@
 -- The notes that are wanted are those of the words.
-use Rattle.std.proofs.Common.{sym, ◌∙◌, inl, inr}
+use Rattle.scopectl.proofs.Words.{◌∙◌, inl, inr, sym}
 use Rattle.scopectl.proofs.act.replay.Goals as goal
 
 pub returns-in-Some-clause-done : goal.returns-in-Some-clause-done

@@ -1,7 +1,5 @@
-use Rattle.std.proofs.Common.{◌≡◌, ◌∙◌, ◌⊎◌, true, false, sym, ap, subst, Err, List, ℕ}
-use Rattle.scope_script.specs.Streams.{AppendsPart}
-use Rattle.scopectl.specs.Naming.{CameFrom, OfNotes}
-use Rattle.scopectl.specs.declared.fault.ProgramFault.{ProgramFault}
+use Rattle.scopectl.specs.{ℕ, ◌≡◌, ◌⊎◌, AppendsPart, CameFrom, Err, List, OfNotes, ProgramFault, false, true}
+use Rattle.scopectl.proofs.Words.{◌∙◌, ap, subst, sym}
 use Rattle.scopectl.proofs.Jobs.{came_of_noted, noted_kept, noted_part, notes_are, read_no_memory, replay_noted, sound_noted, write_no_memory}
 use Rattle.scopectl.proofs.act.replay_noted.Goals as goal
 

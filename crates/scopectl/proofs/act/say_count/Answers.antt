@@ -1,5 +1,5 @@
-use Rattle.std.proofs.Common.{◌∙◌, subst}
-use Rattle.scopectl.specs.Saying.{IsSaid}
+use Rattle.scopectl.specs.{IsSaid}
+use Rattle.scopectl.proofs.Words.{◌∙◌, subst}
 use Rattle.scopectl.proofs.act.say_count.Goals as goal
 
 pub returns : goal.returns

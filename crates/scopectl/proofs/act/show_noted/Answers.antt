@@ -1,14 +1,6 @@
-use Rattle.std.proofs.Common.{◌≡◌, ◌∙◌, ◌⊎◌, ℕ, List, Option, [], true, false, sym, ap, subst, append-nil, Err}
-use Rattle.scopectl.specs.Naming.{CameFrom, OfNotes}
-use Rattle.scopectl.specs.declared.fault.ProgramFault.{ProgramFault}
-use Rattle.scopectl.specs.declared.fault.ProgramFault.TheVariants.{Write}
-use Rattle.scope_rules.specs.declared.types.capacity.Limits.{Limits}
-use Rattle.script_jobs.specs.Jobs.{ShowedNoted}
-use Rattle.script_jobs.specs.Turns.{Turn}
-use Rattle.script_jobs.specs.declared.counting.Count.{Count}
-use Rattle.script_jobs.specs.declared.notes.Notes.TheVariants.{Refusals}
-use Rattle.script_jobs.specs.declared.showing.View.{View}
-use Rattle.scopectl.proofs.Jobs.{came_of_noted, made, noted_kept, read_no_memory, sound_noted, view_noted, view_told_part, view_stopped_noted, write_no_memory}
+use Rattle.scopectl.specs.{[], ℕ, ◌≡◌, ◌⊎◌, CameFrom, Count, Err, Limits, List, OfNotes, Option, ProgramFault, Refusals, ShowedNoted, Turn, View, Write, false, true}
+use Rattle.scopectl.proofs.Words.{◌∙◌, ap, append-nil, subst, sym}
+use Rattle.scopectl.proofs.Jobs.{came_of_noted, made, noted_kept, read_no_memory, sound_noted, view_noted, view_stopped_noted, view_told_part, write_no_memory}
 use Rattle.scopectl.proofs.act.show_noted.Goals as goal
 
 -- the view that was shown is the one that the words ask for

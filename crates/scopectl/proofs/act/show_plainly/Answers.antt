@@ -1,11 +1,5 @@
-use Rattle.std.proofs.Common.{◌≡◌, ◌∙◌, ◌⊎◌, ℕ, List, Option, true, false, sym, ap, subst, Err}
-use Rattle.scopectl.specs.Naming.{CameFrom}
-use Rattle.scopectl.specs.declared.fault.ProgramFault.{ProgramFault}
-use Rattle.scopectl.specs.declared.fault.ProgramFault.TheVariants.{Write}
-use Rattle.scope_rules.specs.declared.types.capacity.Limits.{Limits}
-use Rattle.script_jobs.specs.Jobs.{Showed}
-use Rattle.script_jobs.specs.declared.counting.Count.{Count}
-use Rattle.script_jobs.specs.declared.showing.View.{View}
+use Rattle.scopectl.specs.{ℕ, ◌≡◌, ◌⊎◌, CameFrom, Count, Err, Limits, List, Option, ProgramFault, Showed, View, Write, false, true}
+use Rattle.scopectl.proofs.Words.{◌∙◌, ap, subst, sym}
 use Rattle.scopectl.proofs.Jobs.{came_of, made, read_is_other, sound_at, view_stopped, view_told_part, view_whole, write_is_other}
 use Rattle.scopectl.proofs.act.show_plainly.Goals as goal
 

@@ -1,4 +1,4 @@
-use Rattle.std.proofs.Common.{length}
+use Rattle.scopectl.specs.{length}
 use Rattle.scopectl.proofs.quoting.+has_late.Given as goal
 
 abbrev pub decreases-has_late : goal.decreases-has_late

@@ -1,6 +1,5 @@
-use Rattle.std.proofs.Common.{◌∙◌, ◌||◌, ◌+◌, ap, arith, drop, sym}
-use Rattle.std.specs.List.{list_any}
-use Rattle.scope_rules.specs.Names.{same_name}
+use Rattle.scopectl.specs.{◌+◌, ◌||◌, drop, list_any, same_name}
+use Rattle.scopectl.proofs.Words.{◌∙◌, ap, arith, sym}
 use Rattle.scopectl.proofs.Quoted.{none_left, one_left}
 use Rattle.scopectl.proofs.quoting.+has_offer_from.Goals as goal
 

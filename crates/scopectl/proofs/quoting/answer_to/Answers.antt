@@ -1,6 +1,4 @@
-use Rattle.std.proofs.Common.{not}
-use Rattle.scopectl.specs.Naming.{is_timed}
-use Rattle.scopectl.specs.Program.{has_late}
+use Rattle.scopectl.specs.{has_late, is_timed, not}
 use Rattle.scopectl.proofs.quoting.answer_to.Goals as goal
 
 pub returns-in-None-clause-fault : goal.returns-in-None-clause-fault

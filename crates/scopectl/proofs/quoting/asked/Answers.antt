@@ -1,4 +1,4 @@
-use Rattle.std.proofs.lemmas.Result.{IfErr-weaker}
+use Rattle.scopectl.proofs.Words.{IfErr-weaker}
 use Rattle.scopectl.proofs.quoting.asked.Goals as goal
 
 pub returns-clause-fault : goal.returns-clause-fault

@@ -1,4 +1,4 @@
-use Rattle.std.proofs.lemmas.Result.{IfErr-weaker, IfOk-weaker}
+use Rattle.scopectl.proofs.Words.{IfErr-weaker, IfOk-weaker}
 use Rattle.scopectl.proofs.Quoted.{allowed_by, seen_ok}
 use Rattle.scopectl.proofs.quoting.asked_by.Goals as goal
 

@@ -1,4 +1,4 @@
-use Rattle.std.proofs.lemmas.Result.{IfErr-weaker, IfOk-weaker}
+use Rattle.scopectl.proofs.Words.{IfErr-weaker, IfOk-weaker}
 use Rattle.scopectl.proofs.Quoted.{both_ok, of_line, of_plan, on_err}
 use Rattle.scopectl.proofs.quoting.quoted.Goals as goal
 

@@ -1,7 +1,5 @@
-use Rattle.std.proofs.Common.{◌≡◌, ◌∙◌, ◌⊎◌, ◌++◌, true, false, arith, subst, sym, take}
-use Rattle.std.proofs.KnownBytes.{Consumes-trans}
-use Rattle.scopectl.specs.Naming.{CameFrom, IsBadLine}
-use Rattle.scopectl.specs.declared.fault.ProgramFault.{ProgramFault}
+use Rattle.scopectl.specs.{◌++◌, ◌≡◌, ◌⊎◌, CameFrom, IsBadLine, ProgramFault, false, true}
+use Rattle.scopectl.proofs.Words.{◌∙◌, Consumes-trans, arith, subst, sym, take}
 use Rattle.scopectl.proofs.Quoted.{at_end, bad_at_end, bad_early}
 use Rattle.scopectl.proofs.quoting.read_from.Goals as goal
 

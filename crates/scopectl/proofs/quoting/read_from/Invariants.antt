@@ -1,7 +1,5 @@
 -- What was read so far was taken.
-use Rattle.std.proofs.Common.{◌≡◌, ℕ, ◌-◌, false, ◌<◌, List, length}
-use Rattle.std.specs.Io.KnownBytes.{Consumes}
-use Rattle.quote_plan.specs.Passing.{HasTaken}
+use Rattle.scopectl.specs.{ℕ, ◌-◌, ◌<◌, ◌≡◌, Consumes, HasTaken, List, false, length}
 use Rattle.scopectl.proofs.quoting.read_from.Given as goal
 
 abbrev pub decreases-reading : goal.decreases-reading

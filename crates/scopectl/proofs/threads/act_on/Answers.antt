@@ -1,4 +1,4 @@
-use Rattle.std.proofs.Common.{refl}
+use Rattle.scopectl.proofs.Words.{refl}
 use Rattle.scopectl.proofs.Acted.{acts_refused}
 use Rattle.scopectl.proofs.threads.act_on.Goals as goal
 

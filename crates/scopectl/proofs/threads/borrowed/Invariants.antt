@@ -1,6 +1,6 @@
 -- The words so far are borrowed.
-use Rattle.std.proofs.Common.{◌≡◌, map, take}
-use Rattle.std.specs.String.{string_bytes}
+use Rattle.scopectl.specs.{◌≡◌, map, string_bytes}
+use Rattle.scopectl.proofs.Words.{take}
 use Rattle.scopectl.proofs.threads.borrowed.Given as goal
 
 abbrev pub invariant-loop-word : goal.invariant-loop-word

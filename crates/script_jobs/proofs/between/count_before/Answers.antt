@@ -1,4 +1,4 @@
-use Rattle.std.proofs.Common.{arith}
+use Rattle.script_jobs.proofs.Words.{arith}
 use Rattle.script_jobs.proofs.Counted.{counted_all, counted_on, counted_to, is_before, is_later}
 use Rattle.script_jobs.proofs.between.count_before.Goals as goal
 

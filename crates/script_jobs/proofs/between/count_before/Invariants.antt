@@ -1,6 +1,5 @@
 -- The times so far come before the moment.
-use Rattle.std.proofs.Common.{◌≡◌, ◌+◌, length}
-use Rattle.script_jobs.specs.Between.{count_before}
+use Rattle.script_jobs.specs.{◌+◌, ◌≡◌, count_before, length}
 use Rattle.script_jobs.proofs.between.count_before.Given as goal
 
 abbrev pub decreases-loop-time : goal.decreases-loop-time

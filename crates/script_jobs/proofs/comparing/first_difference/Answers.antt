@@ -1,4 +1,4 @@
-use Rattle.std.proofs.Common.{arith}
+use Rattle.script_jobs.proofs.Words.{arith}
 use Rattle.script_jobs.proofs.Compared.{one_more, shorter}
 use Rattle.script_jobs.proofs.comparing.first_difference.Goals as goal
 

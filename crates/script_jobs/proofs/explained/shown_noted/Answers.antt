@@ -1,10 +1,5 @@
-use Rattle.std.proofs.Common.{◌∙◌, ap, subst, List, ℕ}
-use Rattle.std.specs.Io.KnownBytes.{Appends}
-use Rattle.scope_script.specs.Sessions.{realm_of_script}
-use Rattle.script_jobs.specs.Counts.{count_of_script}
-use Rattle.script_jobs.specs.Jobs.{shown_text}
-use Rattle.script_jobs.specs.Notes.{notes_text}
-use Rattle.script_jobs.specs.Times.{stamps_of_script}
+use Rattle.script_jobs.specs.{ℕ, Appends, List, count_of_script, notes_text, realm_of_script, shown_text, stamps_of_script}
+use Rattle.script_jobs.proofs.Words.{◌∙◌, ap, subst}
 use Rattle.script_jobs.proofs.explained.shown_noted.Goals as goal
 
 pub returns-in-Ok-shown_of_script-clause-ok : goal.returns-in-Ok-shown_of_script-clause-ok

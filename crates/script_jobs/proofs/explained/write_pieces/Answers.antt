@@ -1,6 +1,5 @@
-use Rattle.std.proofs.Common.{◌∙◌, refl}
-use Rattle.std.proofs.lemmas.Result.{on_err_weaker, on_ok_weaker}
-use Rattle.script_jobs.specs.Scripts.{noted_of}
+use Rattle.script_jobs.specs.{noted_of}
+use Rattle.script_jobs.proofs.Words.{◌∙◌, on_err_weaker, on_ok_weaker, refl}
 use Rattle.script_jobs.proofs.PieceByPiece.{none_left, noted_first, noted_last, noted_last_part, noted_more, noted_part}
 use Rattle.script_jobs.proofs.explained.write_pieces.Goals as goal
 

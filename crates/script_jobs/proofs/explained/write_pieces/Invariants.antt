@@ -1,8 +1,5 @@
 -- What is noted so far was written.
-use Rattle.std.proofs.Common.{◌≡◌, length}
-use Rattle.scope_rules.specs.declared.types.capacity.Limits.{Limits}
-use Rattle.script_jobs.specs.Notes.{notes_begin}
-use Rattle.script_jobs.specs.Scripts.{noted_of}
+use Rattle.script_jobs.specs.{◌≡◌, Limits, length, noted_of, notes_begin}
 use Rattle.script_jobs.proofs.PieceByPiece.{NotedUpTo}
 use Rattle.script_jobs.proofs.explained.write_pieces.Given as goal
 

@@ -1,5 +1,5 @@
-use Rattle.std.proofs.lemmas.Result.{IfOk-weaker}
-use Rattle.std.proofs.Common.{codes}
+use Rattle.script_jobs.specs.{codes}
+use Rattle.script_jobs.proofs.Words.{IfOk-weaker}
 use Rattle.script_jobs.proofs.Made.{fallback}
 use Rattle.script_jobs.proofs.making.push_next.Goals as goal
 

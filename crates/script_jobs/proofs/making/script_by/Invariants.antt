@@ -1,6 +1,5 @@
 -- So many lines were made.
-use Rattle.std.proofs.Common.{string_bytes}
-use Rattle.script_jobs.specs.Made.{IsScript}
+use Rattle.script_jobs.specs.{IsScript, string_bytes}
 use Rattle.script_jobs.proofs.making.script_by.Given as goal
 
 abbrev pub invariant-loop-line : goal.invariant-loop-line

@@ -1,6 +1,5 @@
-use Rattle.std.proofs.Common.{◌∙◌, rules, refl}
-use Rattle.std.proofs.KnownBytes.{Keeps-refl}
-use Rattle.script_jobs.specs.Scripts.{noted_of, plain_of}
+use Rattle.script_jobs.specs.{noted_of, plain_of}
+use Rattle.script_jobs.proofs.Words.{◌∙◌, Keeps-refl, refl, rules}
 use Rattle.script_jobs.proofs.Running.{begins_run, ends_run, goes_on, reads_none, stops_ending, stops_reading, stops_within}
 use Rattle.script_jobs.proofs.noting.read_pieces.Goals as goal
 

@@ -1,7 +1,5 @@
 -- All that was read so far was answered and noted, and no stream has failed.
-use Rattle.std.proofs.Common.{◌≡◌, ◌-◌, ◌<◌, false, [], length}
-use Rattle.scope_rules.specs.declared.types.capacity.Limits.{Limits}
-use Rattle.script_jobs.specs.Scripts.{begins, noted_of, plain_of}
+use Rattle.script_jobs.specs.{[], ◌-◌, ◌<◌, ◌≡◌, Limits, begins, false, length, noted_of, plain_of}
 use Rattle.script_jobs.proofs.Running.{UnderWay}
 use Rattle.script_jobs.proofs.noting.read_pieces.Given as goal
 

@@ -1,5 +1,5 @@
 -- The script is one of these limits.
-use Rattle.std.proofs.lemmas.Result.{IfOk-weaker}
+use Rattle.script_jobs.proofs.Words.{IfOk-weaker}
 use Rattle.script_jobs.proofs.Running.{on_err_then}
 use Rattle.script_jobs.proofs.noting.replayed_noted.Goals as goal
 

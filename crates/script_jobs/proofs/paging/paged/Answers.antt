@@ -1,7 +1,5 @@
-use Rattle.std.proofs.Common.{ℕ, List, Result, Ok, Err, sym, subst}
-use Rattle.std.proofs.lemmas.Result.{IfOk-weaker}
-use Rattle.std.specs.Io.KnownBytes.{Consumes}
-use Rattle.std.specs.Result.{IfOk}
+use Rattle.script_jobs.specs.{ℕ, Consumes, Err, IfOk, List, Ok, Result}
+use Rattle.script_jobs.proofs.Words.{IfOk-weaker, subst, sym}
 use Rattle.script_jobs.proofs.paging.paged.Goals as goal
 
 both : {T E : Type 0} (r : Result T E) (P Q : T → Type 0) → IfOk r P → IfOk r Q → IfOk r (λ x. P x × Q x)

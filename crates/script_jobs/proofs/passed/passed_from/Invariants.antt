@@ -1,6 +1,5 @@
 -- So many were counted as were looked at.
-use Rattle.std.proofs.Common.{◌≡◌}
-use Rattle.script_jobs.specs.Passed.{ArePassed}
+use Rattle.script_jobs.specs.{◌≡◌, ArePassed}
 use Rattle.script_jobs.proofs.passed.passed_from.Given as goal
 
 abbrev pub invariant-loop-index : goal.invariant-loop-index

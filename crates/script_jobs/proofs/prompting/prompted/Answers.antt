@@ -1,6 +1,5 @@
-use Rattle.std.proofs.Common.{◌∙◌, ap, sym}
-use Rattle.scope_script.specs.ByBytes.{after_bytes, the_beginning}
-use Rattle.scope_script.proofs.Scripts.{after_none}
+use Rattle.script_jobs.specs.{after_bytes, the_beginning}
+use Rattle.script_jobs.proofs.Words.{◌∙◌, after_none, ap, sym}
 use Rattle.script_jobs.proofs.prompting.prompted.Goals as goal
 
 pub listen-requires-clause-stands : goal.listen-requires-clause-stands

@@ -1,4 +1,4 @@
-use Rattle.scope_book.specs.Books.{realm_of}
+use Rattle.script_jobs.specs.{realm_of}
 use Rattle.script_jobs.proofs.Runs.{replayed}
 use Rattle.script_jobs.proofs.replaying.replayed.Goals as goal
 

@@ -1,5 +1,5 @@
-use Rattle.std.proofs.lemmas.Result.{IfOk-weaker}
-use Rattle.scope_book.specs.Books.{realm_of}
+use Rattle.script_jobs.specs.{realm_of}
+use Rattle.script_jobs.proofs.Words.{IfOk-weaker}
 use Rattle.script_jobs.proofs.Runs.{dumped, read_part, unwritten}
 use Rattle.script_jobs.proofs.showing.dumped.Goals as goal
 

@@ -1,5 +1,6 @@
 -- A line has a reading, or those behind it may have one.
-use Rattle.std.proofs.Common.{ap, sym, ◌∙◌, is_some}
+use Rattle.script_jobs.specs.{is_some}
+use Rattle.script_jobs.proofs.Words.{◌∙◌, ap, sym}
 use Rattle.script_jobs.proofs.Timed.{read_here, read_later, read_never}
 use Rattle.script_jobs.proofs.times.has_reading.Goals as goal
 

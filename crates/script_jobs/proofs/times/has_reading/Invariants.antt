@@ -1,7 +1,5 @@
 -- None of the lines so far has a reading.
-use Rattle.std.proofs.Common.{◌≡◌, [], length}
-use Rattle.scope_script.specs.Cutting.{ended_lines}
-use Rattle.script_jobs.specs.Times.{has_reading}
+use Rattle.script_jobs.specs.{[], ◌≡◌, ended_lines, has_reading, length}
 use Rattle.script_jobs.proofs.times.has_reading.Given as goal
 
 abbrev pub decreases-loop-line : goal.decreases-loop-line

@@ -1,7 +1,6 @@
 -- One line more.
-use Rattle.std.proofs.Common.{◌≡◌, length}
-use Rattle.scope_book.specs.Books.{realm_of}
-use Rattle.script_jobs.proofs.Timed.{one_stamped, all_stamped}
+use Rattle.script_jobs.specs.{◌≡◌, length, realm_of}
+use Rattle.script_jobs.proofs.Timed.{all_stamped, one_stamped}
 use Rattle.script_jobs.proofs.times.read_stamps.Goals as goal
 
 pub loop-line-preserved : goal.loop-line-preserved

@@ -1,10 +1,5 @@
 -- The times of the lines so far, and those of the rest, are those of all.
-use Rattle.std.proofs.Common.{◌≡◌, [], length}
-use Rattle.scope_book.specs.Books.{realm_of}
-use Rattle.scope_rules.specs.Origin.{the_start}
-use Rattle.scope_rules.specs.Replies.{starting}
-use Rattle.scope_script.specs.Cutting.{ended_lines}
-use Rattle.script_jobs.specs.Times.{stamps_from}
+use Rattle.script_jobs.specs.{[], ◌≡◌, ended_lines, length, realm_of, stamps_from, starting, the_start}
 use Rattle.script_jobs.proofs.times.read_stamps.Given as goal
 
 abbrev pub decreases-loop-line : goal.decreases-loop-line

@@ -1,4 +1,4 @@
-use Rattle.std.proofs.KnownBytes.{Consumes-trans}
+use Rattle.script_jobs.proofs.Words.{Consumes-trans}
 use Rattle.script_jobs.proofs.whole.read_whole.Goals as goal
 
 pub returns-then-is_err-clause-part : goal.returns-then-is_err-clause-part

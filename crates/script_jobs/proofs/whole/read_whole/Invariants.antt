@@ -1,6 +1,5 @@
 -- What was read so far is kept.
-use Rattle.std.proofs.Common.{◌≡◌, ◌-◌, false, ◌<◌, length}
-use Rattle.std.specs.Io.KnownBytes.{Consumes}
+use Rattle.script_jobs.specs.{◌-◌, ◌<◌, ◌≡◌, Consumes, false, length}
 use Rattle.script_jobs.proofs.whole.read_whole.Given as goal
 
 abbrev pub decreases-reading : goal.decreases-reading

@@ -1,5 +1,9 @@
+use Rattle.script_journal.proofs.RaisedLegal.{numbers_decide_nothing}
 use Rattle.script_journal.proofs.Renumbered.{brings_anew, counts_anew}
 use Rattle.script_journal.proofs.laws.journal_counts_from_its_base.Goals as goal
+
+pub returns-clause-legal : goal.returns-clause-legal
+returns-clause-legal c = numbers_decide_nothing
 
 pub returns-clause-counts : goal.returns-clause-counts
 returns-clause-counts c = counts_anew

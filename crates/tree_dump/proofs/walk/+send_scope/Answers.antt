@@ -6,7 +6,7 @@ use Rattle.scope_rules.specs.Nests.{inner, tasks_of}
 use Rattle.serde.specs.Event.{Logs, map_begins, seq_begins}
 use Rattle.serde_json.specs.Data.{null}
 use Rattle.serde_json.specs.Events.{SendsValue}
-use Rattle.tree_dump.specs.Ages.{clock_of, task_since}
+use Rattle.tree_dump.specs.Ages.{clock_of, task_times}
 use Rattle.tree_dump.specs.Objects.{scope_object, task_object}
 use Rattle.tree_dump.specs.Tree.{nested, task_shown, tasks_shown}
 use Rattle.tree_dump.proofs.Sent.{scope_sent, task_sent, item_sent, items_end, shown_len}
@@ -39,7 +39,7 @@ send_scope-returns g t c =
     (scope_sent i c.scope_since-since.result (within (inner h i.scope)) (tasks_shown by h within i.scope) c.expiry_word.result.now c.scope_stage_word.result.now
     (w c.args.out.now) (w c.begin_map.new.self) (w c.send_cause.new.out) (w c.send_time.new.out) (w c.send_text.new.out) (w c.send_number.new.out) (w c.send_scope.new.out)
     (w c.send_flag.new.out) (w c.send_joiner.new.out) (w c.send_number-2.new.out) (w c.send_flag-2.new.out) (w c.send_since.new.out) (w c.send_text-2.new.out) (w c.send_tasks.new.out) (w c.end_map.new.self)
-    c.expiry_word.ensures c.scope_stage_word.ensures (subst (λ n. Logs (w c.args.out.now) (w c.begin_map.new.self) (map_begins (Some n))) c.count_since.ensures c.in_ok-begin_map.ensures) c.in_ok-send_cause.ensures c.in_ok-send_time.ensures c.in_ok-send_text.ensures c.in_ok-send_number.ensures
+    c.expiry_word.ensures c.scope_stage_word.ensures (subst (λ n. Logs (w c.args.out.now) (w c.begin_map.new.self) (map_begins (Some n))) c.scope_members.ensures c.in_ok-begin_map.ensures) c.in_ok-send_cause.ensures c.in_ok-send_time.ensures c.in_ok-send_text.ensures c.in_ok-send_number.ensures
     (w c.key.new.self, c.in_ok-key.ensures, subst (λ p. SendsValue (within p) (w c.key.new.self) (w c.send_scope.new.out)) c.inner.ensures c.in_ok-send_scope.ensures)
     c.in_ok-send_flag.ensures c.in_ok-send_joiner.ensures c.in_ok-send_number-2.ensures c.in_ok-send_flag-2.ensures c.in_ok-send_since.ensures c.in_ok-send_text-2.ensures
     (w c.key-2.new.self, c.in_ok-key-2.ensures, c.in_ok-send_tasks.ensures) e)) c.end_map.ensures
@@ -51,13 +51,13 @@ send_task-returns g t c =
     let w = g.S.Serializer.written in
     let told = c.in-Some.told in
     let within = nested by h c.args.levels in
-    let shown = ap (λ o. option_map_or (λ t. task_object t (option_map (λ a. task_since a h t.task t.stage) by) (within t.inner)) o null) (sym c.task_told.ensures ∙ c.in-Some.is)
-    ∙ ap (λ since. task_object told since (within told.inner)) (sym c.task_since-since.ensures) in
+    let shown = ap (λ o. option_map_or (λ t. task_object t (option_map (λ a. task_times a h t.task t.stage) by) (within t.inner)) o null) (sym c.task_told.ensures ∙ c.in-Some.is)
+    ∙ ap (λ times. task_object told times (within told.inner)) (sym c.task_times-times.ensures) in
     on_ok_weaker c.end_map.result (λ e. subst (λ d. SendsValue d (w c.args.out.now) (w c.end_map.new.self)) (sym shown)
-    (task_sent told c.task_since-since.result (within told.inner) c.as_str.result.now c.word.result.now c.word-2.result.now
-    (w c.args.out.now) (w c.begin_map.new.self) (w c.send_number.new.out) (w c.send_scope.new.out) (w c.send_text.new.out) (w c.send_since.new.out) (w c.send_text-2.new.out) (w c.send_text-3.new.out) (w c.end_map.new.self)
-    c.as_str.ensures c.word.ensures c.word-2.ensures (subst (λ n. Logs (w c.args.out.now) (w c.begin_map.new.self) (map_begins (Some n))) c.count_since.ensures c.in_ok-begin_map.ensures) c.in_ok-send_number.ensures
-    (w c.key.new.self, c.in_ok-key.ensures, c.in_ok-send_scope.ensures) c.in_ok-send_text.ensures c.in_ok-send_since.ensures c.in_ok-send_text-2.ensures c.in_ok-send_text-3.ensures e)) c.end_map.ensures
+    (task_sent told c.task_times-times.result (within told.inner) c.as_str.result.now c.word.result.now c.word-2.result.now
+    (w c.args.out.now) (w c.begin_map.new.self) (w c.send_ended.new.out) (w c.send_number.new.out) (w c.send_scope.new.out) (w c.send_text.new.out) (w c.send_result.new.out) (w c.send_started.new.out) (w c.send_text-2.new.out) (w c.send_text-3.new.out) (w c.end_map.new.self)
+    c.as_str.ensures c.word.ensures c.word-2.ensures (subst (λ n. Logs (w c.args.out.now) (w c.begin_map.new.self) (map_begins (Some n))) c.task_members.ensures c.in_ok-begin_map.ensures) c.in_ok-send_ended.ensures c.in_ok-send_number.ensures
+    (w c.key.new.self, c.in_ok-key.ensures, c.in_ok-send_scope.ensures) c.in_ok-send_text.ensures c.in_ok-send_result.ensures c.in_ok-send_started.ensures c.in_ok-send_text-2.ensures c.in_ok-send_text-3.ensures e)) c.end_map.ensures
 
 pub send_tasks-loop-index-preserved : goal.send_tasks-loop-index-preserved
 send_tasks-loop-index-preserved g t c =

@@ -1,4 +1,6 @@
-use Rattle.std.proofs.Common.{◌∙◌, inr, max, rules}
+use Rattle.std.specs.Arc.{arc_value}
+use Rattle.std.proofs.Common.{◌∙◌, inr, length, max, rules}
+use Rattle.balkreyn.specs.Together.{GivesEach}
 use Rattle.balkreyn.proofs.Looked.{maps_so}
 use Rattle.balkreyn.proofs.act.batches.map_at_most.Goals as goal
 
@@ -11,7 +13,10 @@ returns-in_err-close g c = inr (inr (record {
   found = c.mapped-found.result;
   closed = c.close.result;
   opened = c.in_ok-scope.ensures;
-  ran = maps_so g.X.Scopes.token g.X.Acts.reads g.X.Acts.time c.args.name c.max.result (max c.args.at_once 1) _ _ c.in_ok-scope.scope c.entered.new.cx c.mapped-found.new.cx (search rules) (λ values it. (it.0, it.1 ∙ c.in_ok-batch.ensures)) c.mapped-found.result c.mapped-found.ensures;
+  ran = maps_so g.X.Scopes.token g.X.Acts.reads g.X.Acts.time c.args.name c.max.result (max c.args.at_once 1)
+      (λ after new cames. GivesEach g.X.Scopes.token g.X.Acts.seat (g.J.Yields.may_yield c.args.name) g.J.Error.From.from_gives (length (arc_value c.in_ok-batch.batch).places.items) after new cames.items)
+      (λ after new cames. GivesEach g.X.Scopes.token g.X.Acts.seat (g.J.Yields.may_yield c.args.name) g.J.Error.From.from_gives (length c.args.jobs.items) after new cames.items)
+      c.in_ok-scope.scope c.entered.new.cx c.mapped-found.new.cx (search rules) (λ after cames it. record { shown = it.shown; looked = it.looked; each = it.each; all = it.all ∙ c.in_ok-batch.ensures }) c.mapped-found.result c.mapped-found.ensures;
   shut = c.close.ensures;
   answers = search rules;
 }))
@@ -25,7 +30,10 @@ returns g c = inr (inr (record {
   found = c.mapped-found.result;
   closed = c.close.result;
   opened = c.in_ok-scope.ensures;
-  ran = maps_so g.X.Scopes.token g.X.Acts.reads g.X.Acts.time c.args.name c.max.result (max c.args.at_once 1) _ _ c.in_ok-scope.scope c.entered.new.cx c.mapped-found.new.cx (search rules) (λ values it. (it.0, it.1 ∙ c.in_ok-batch.ensures)) c.mapped-found.result c.mapped-found.ensures;
+  ran = maps_so g.X.Scopes.token g.X.Acts.reads g.X.Acts.time c.args.name c.max.result (max c.args.at_once 1)
+      (λ after new cames. GivesEach g.X.Scopes.token g.X.Acts.seat (g.J.Yields.may_yield c.args.name) g.J.Error.From.from_gives (length (arc_value c.in_ok-batch.batch).places.items) after new cames.items)
+      (λ after new cames. GivesEach g.X.Scopes.token g.X.Acts.seat (g.J.Yields.may_yield c.args.name) g.J.Error.From.from_gives (length c.args.jobs.items) after new cames.items)
+      c.in_ok-scope.scope c.entered.new.cx c.mapped-found.new.cx (search rules) (λ after cames it. record { shown = it.shown; looked = it.looked; each = it.each; all = it.all ∙ c.in_ok-batch.ensures }) c.mapped-found.result c.mapped-found.ensures;
   shut = c.close.ensures;
   answers = search rules;
 }))

@@ -1,9 +1,9 @@
-use Rattle.std.proofs.Common.{rules, refl, inr}
+use Rattle.std.proofs.Common.{Ok, rules, refl, inr, true}
 use Rattle.balkreyn.proofs.act.blocks.scope.Goals as goal
 
 -- the scope was opened, the body came back, and the close was refused
-pub returns-in_err-close : goal.returns-in_err-close
-returns-in_err-close g c = inr (record {
+pub returns-in_err-verdict : goal.returns-in_err-verdict
+returns-in_err-verdict g c = inr (record {
   scope = c.in_ok-scope.scope;
   begun = c.open.new.self;
   ended = c.body-found.new.arg2;
@@ -12,6 +12,8 @@ returns-in_err-close g c = inr (record {
   opened = c.in_ok-scope.ensures;
   ran = record { lent = _; given = refl; back = _; left = refl; met = c.body-found.ensures };
   shut = c.close.ensures;
+  owed = c.owes-owes.result;
+  told = tt;
   answers = search rules;
 })
 
@@ -22,9 +24,11 @@ returns g c = inr (record {
   begun = c.open.new.self;
   ended = c.body-found.new.arg2;
   found = c.body-found.result;
-  closed = c.close.result;
+  closed = Ok c.in_ok-verdict.verdict;
   opened = c.in_ok-scope.ensures;
   ran = record { lent = _; given = refl; back = _; left = refl; met = c.body-found.ensures };
-  shut = c.close.ensures;
-  answers = search rules;
+  shut = c.in_ok-verdict.ensures;
+  owed = c.owes-owes.result;
+  told = tt;
+  answers = c.settled.ensures;
 })

@@ -2,12 +2,12 @@ use Rattle.std.proofs.Common.{rules, refl, inl, inr}
 use Rattle.balkreyn.proofs.act.limits.limited.Goals as goal
 
 -- a cancel or a deadline came before a permit
-pub returns-in-None : goal.returns-in-None
-returns-in-None g c = let it = rw c.in-None.is at c.in_ok-permit.ensures.answer in inr (inl (it.0, it.1, refl))
+pub returns-in-Err : goal.returns-in-Err
+returns-in-Err g c = inr (inl (c.in-Err.mark, rw c.in-Err.is at c.in_ok-permit.ensures.answer, refl))
 
 -- the body succeeded
-pub returns-in-Ok : goal.returns-in-Ok
-returns-in-Ok g c = inl (record {
+pub returns-in-Ok-found : goal.returns-in-Ok-found
+returns-in-Ok-found g c = inl (record {
   begun = c.awaited-waited.new.cx;
   waited = c.awaited-waited.ensures.sees;
   found = c.body-found.result;
@@ -16,8 +16,8 @@ returns-in-Ok g c = inl (record {
 })
 
 -- and here it failed
-pub returns-in-Err : goal.returns-in-Err
-returns-in-Err g c = inl (record {
+pub returns-in-Err-found : goal.returns-in-Err-found
+returns-in-Err-found g c = inl (record {
   begun = c.awaited-waited.new.cx;
   waited = c.awaited-waited.ensures.sees;
   found = c.body-found.result;

@@ -19,4 +19,4 @@ returns-in_err-join g c =
 
 -- each slot was asked
 pub returns : goal.returns
-returns g c = gathered_by g.X.Scopes.token g.X.Acts.reads g.X.Acts.time g.J.Yields.may_yield c.args.name (length c.args.jobs.items) c.args.scope c.args.cx.now c.fork_all.new.cx c.given.new.cx c.in_ok-slots.slots.items c.deref.result.now c.in_ok-slots.ensures.0 c.in_ok-slots.ensures.1 c.deref.ensures.value c.join.new.self c.in_ok-join.field-0 c.in_ok-join.ensures.answer c.given.result (λ values. values.items) c.given.ensures
+returns g c = gathered_by g.X.Scopes.token g.X.Acts.reads g.X.Acts.time g.X.Acts.seat g.J.Yields.may_yield g.J.Error.From.from_gives c.args.name (length c.args.jobs.items) c.args.scope c.args.cx.now c.fork_all.new.cx c.given.new.cx c.in_ok-slots.slots.items c.deref.result.now c.in_ok-slots.ensures.0 c.in_ok-slots.ensures.1 c.deref.ensures.value c.join.new.self c.checkpoint-shown.new.self c.in_ok-join.field-0 c.checkpoint-shown.result c.in_ok-join.ensures.answer (record { sees = c.checkpoint-shown.ensures.sees; shows = c.checkpoint-shown.ensures.shows }) c.given.result (λ cames. cames.items) c.given.ensures

@@ -1,7 +1,6 @@
 -- The moment is never before 0.
-use Rattle.std.proofs.Common.{ℕ, ◌≤◌, arith}
-use Rattle.scope_rules.specs.History.{moment}
-use Rattle.realm_core.specs.Calls.{history_seen}
+use Rattle.quote_gateway.specs.{◌≤◌, history_seen, moment}
+use Rattle.quote_gateway.proofs.Words.{arith}
 use Rattle.quote_gateway.proofs.Telling.{on_ok_so}
 use Rattle.quote_gateway.proofs.until.UntimedUntilUnit.answer.Goals as goal
 

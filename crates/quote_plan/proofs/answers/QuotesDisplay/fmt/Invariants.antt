@@ -1,7 +1,5 @@
 -- The quotes before the index were written.
-use Rattle.std.proofs.Common.{take}
-use Rattle.std.specs.Fmt.{HasWritten, IsPlainFormatter}
-use Rattle.quote_plan.specs.AnswerText.{quotes_text}
+use Rattle.quote_plan.specs.{HasWritten, IsPlainFormatter, quotes_text, take}
 use Rattle.quote_plan.proofs.answers.QuotesDisplay.fmt.Given as goal
 
 abbrev pub invariant-loop-quote : goal.invariant-loop-quote

@@ -1,5 +1,5 @@
-use Rattle.std.proofs.Common.{◌∙◌, ◌==◌, ap, length, subst, sym}
-use Rattle.quote_plan.specs.Passing.{HasTaken}
+use Rattle.quote_plan.specs.{◌==◌, HasTaken, length}
+use Rattle.quote_plan.proofs.Words.{◌∙◌, ap, subst, sym}
 use Rattle.quote_plan.proofs.Passing.{ends_cut, ends_well, ends_without_mode, no_bytes}
 use Rattle.quote_plan.proofs.readers.PlanReader.finish.Goals as goal
 

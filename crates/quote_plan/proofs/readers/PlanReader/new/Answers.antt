@@ -1,4 +1,4 @@
-use Rattle.std.proofs.Common.{refl}
+use Rattle.quote_plan.proofs.Words.{refl}
 use Rattle.quote_plan.proofs.Passing.{nothing_taken}
 use Rattle.quote_plan.proofs.readers.PlanReader.new.Goals as goal
 

@@ -1,7 +1,6 @@
-use Rattle.std.proofs.Common.{◌++◌, ap, subst, sym}
-use Rattle.quote_plan.specs.Begun.{StandsFor}
+use Rattle.quote_plan.specs.{◌++◌, PlanSoFar, StandsFor}
+use Rattle.quote_plan.proofs.Words.{ap, subst, sym}
 use Rattle.quote_plan.proofs.Passing.{bad_more, line_more, rest_begun}
-use Rattle.quote_plan.specs.Passing.{PlanSoFar}
 use Rattle.quote_plan.proofs.readers.PlanReader.take.Goals as goal
 
 pub loop-text-preserved : goal.loop-text-preserved

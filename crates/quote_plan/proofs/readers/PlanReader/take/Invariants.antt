@@ -1,5 +1,5 @@
 -- The lines before the rest were taken.
-use Rattle.std.proofs.Common.{length}
+use Rattle.quote_plan.specs.{length}
 use Rattle.quote_plan.proofs.Passing.{SoFar}
 use Rattle.quote_plan.proofs.readers.PlanReader.take.Given as goal
 

@@ -1,7 +1,5 @@
-use Rattle.std.proofs.Common.{◌≡◌, ◌∙◌, ap, sym, subst, [], ◌++◌, List, ℕ}
-use Rattle.std.proofs.lemmas.Result.{IfErr-weaker, on_ok_weaker}
-use Rattle.quote_plan.specs.Begun.{StandsFor, same}
-use Rattle.quote_plan.specs.Passing.{HasTaken}
+use Rattle.quote_plan.specs.{[], ◌++◌, ◌≡◌, HasTaken, StandsFor, same}
+use Rattle.quote_plan.proofs.Words.{◌∙◌, IfErr-weaker, ap, on_ok_weaker, subst, sym}
 use Rattle.quote_plan.proofs.Passing.{line_ends, line_is_bad, line_is_none, line_is_plain, no_bytes}
 use Rattle.quote_plan.proofs.readers.PlanReader.take_line.Goals as goal
 

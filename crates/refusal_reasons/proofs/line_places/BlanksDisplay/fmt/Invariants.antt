@@ -1,5 +1,4 @@
-use Rattle.std.proofs.Common.{replicate}
-use Rattle.std.specs.Fmt.{HasWritten, IsPlainFormatter}
+use Rattle.refusal_reasons.specs.{HasWritten, IsPlainFormatter, replicate}
 use Rattle.refusal_reasons.proofs.line_places.BlanksDisplay.fmt.Given as goal
 
 abbrev pub invariant-loop-blank : goal.invariant-loop-blank

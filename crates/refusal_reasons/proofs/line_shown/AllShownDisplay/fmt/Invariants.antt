@@ -1,7 +1,5 @@
 -- The bytes before the index were written.
-use Rattle.std.proofs.Common.{take}
-use Rattle.std.specs.Fmt.{HasWritten, IsPlainFormatter}
-use Rattle.refusal_reasons.specs.Shown.{all_shown}
+use Rattle.refusal_reasons.specs.{HasWritten, IsPlainFormatter, all_shown, take}
 use Rattle.refusal_reasons.proofs.line_shown.AllShownDisplay.fmt.Given as goal
 
 abbrev pub invariant-loop-byte : goal.invariant-loop-byte

@@ -1,8 +1,8 @@
 -- Each step of the search for the number is one of those in `Openings`.
-use Rattle.std.proofs.Common.{◌<◌, is_some, length, sym, ap, ◌∙◌, arith}
-use Rattle.scope_rules.proofs.Openings.{searched_other, searched_wrong, searched_found, searched_at, searched_all}
-use Rattle.scope_model.proofs.scan.history.find_numbered.Goals as goal
+use Rattle.scope_model.specs.{◌<◌, is_some, length}
+use Rattle.scope_model.proofs.Words.{◌∙◌, ap, arith, searched_all, searched_at, searched_found, searched_other, searched_wrong, sym}
 use Rattle.scope_model.proofs.scan.history.find_numbered.Goals.{in-Some+else-given-wanted, in_default}
+use Rattle.scope_model.proofs.scan.history.find_numbered.Goals as goal
 
 pub loop-place-init : goal.loop-place-init
 loop-place-init g c = searched_at g.R.Numbered.kind g.R.Numbered.shown _ _ _ _ c.from-given.ensures

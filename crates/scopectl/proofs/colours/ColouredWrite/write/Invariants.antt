@@ -1,4 +1,4 @@
-use Rattle.std.proofs.Common.{length}
+use Rattle.scopectl.specs.{length}
 use Rattle.scopectl.proofs.colours.ColouredWrite.write.Given as goal
 
 abbrev pub decreases-loop-line : goal.decreases-loop-line

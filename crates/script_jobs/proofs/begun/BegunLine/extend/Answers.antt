@@ -1,5 +1,5 @@
-use Rattle.std.proofs.Common.{◌≡◌, ◌∙◌, ◌+◌, ◌-◌, ◌≤◌, ◌++◌, false, true, length, take, ap, sym, subst, arith}
-use Rattle.script_jobs.specs.Begun.{Begun, grown_by}
+use Rattle.script_jobs.specs.{◌++◌, ◌+◌, ◌-◌, ◌≡◌, ◌≤◌, Begun.Begun, false, grown_by, length, take, true}
+use Rattle.script_jobs.proofs.Words.{◌∙◌, ap, arith, subst, sym}
 use Rattle.script_jobs.proofs.Growing.{fits_take, grows_all, same_begun}
 use Rattle.script_jobs.proofs.begun.BegunLine.extend.Goals as goal
 

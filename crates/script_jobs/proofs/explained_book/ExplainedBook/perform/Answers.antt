@@ -1,7 +1,6 @@
 -- What ended before stays ended, and if there are fewer events, the realm began anew.
-use Rattle.std.proofs.Common.{length, ap, arith}
-use Rattle.scope_book.specs.Books.{realm_of}
-use Rattle.scope_rules.specs.Replies.{Realm}
+use Rattle.script_jobs.specs.{Realm, length, realm_of}
+use Rattle.script_jobs.proofs.Words.{ap, arith}
 use Rattle.script_jobs.proofs.PassedTasks.{knows_performed}
 use Rattle.script_jobs.proofs.explained_book.ExplainedBook.perform.Goals as goal
 

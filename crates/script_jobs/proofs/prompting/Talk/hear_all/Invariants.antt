@@ -1,6 +1,5 @@
 -- The lines so far stand.
-use Rattle.std.proofs.Common.{◌≡◌, false, length}
-use Rattle.script_jobs.specs.Prompting.{StandsUnless}
+use Rattle.script_jobs.specs.{◌≡◌, StandsUnless, false, length}
 use Rattle.script_jobs.proofs.prompting.Talk.hear_all.Given as goal
 
 abbrev pub decreases-loop-line : goal.decreases-loop-line

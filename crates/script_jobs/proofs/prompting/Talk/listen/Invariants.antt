@@ -1,6 +1,5 @@
 -- The lines so far stand, and no stream has failed.
-use Rattle.std.proofs.Common.{◌≡◌, ◌-◌, ◌<◌, false, length}
-use Rattle.script_jobs.specs.Prompting.{StandsUnless}
+use Rattle.script_jobs.specs.{◌-◌, ◌<◌, ◌≡◌, StandsUnless, false, length}
 use Rattle.script_jobs.proofs.prompting.Talk.listen.Given as goal
 
 abbrev pub decreases-reading : goal.decreases-reading

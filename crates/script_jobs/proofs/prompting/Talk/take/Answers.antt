@@ -1,5 +1,5 @@
-use Rattle.std.proofs.Common.{◌∙◌, sym}
-use Rattle.script_jobs.specs.Scripts.{plain_of}
+use Rattle.script_jobs.specs.{plain_of}
+use Rattle.script_jobs.proofs.Words.{◌∙◌, sym}
 use Rattle.script_jobs.proofs.Standing.{stands_more}
 use Rattle.script_jobs.proofs.prompting.Talk.take.Goals as goal
 

@@ -1,4 +1,5 @@
-use Rattle.std.proofs.Common.{◌∙◌, ◌++◌, ap, drop, sym, take-append-drop}
+use Rattle.script_jobs.specs.{◌++◌}
+use Rattle.script_jobs.proofs.Words.{◌∙◌, ap, drop, sym, take-append-drop}
 use Rattle.script_jobs.proofs.prompting.Talk.take_back.Goals as goal
 
 pub returns-clause-lines : goal.returns-clause-lines

@@ -1,5 +1,5 @@
-use Rattle.std.proofs.Common.{◌≡◌, ◌∙◌, true, false, sym, append-nil, rules}
-use Rattle.scope_script.specs.KeptLines.{is_blank, kept}
+use Rattle.script_jobs.specs.{◌≡◌, false, is_blank, kept, true}
+use Rattle.script_jobs.proofs.Words.{◌∙◌, append-nil, rules, sym}
 use Rattle.script_jobs.proofs.Growing.{blank_kept}
 use Rattle.script_jobs.proofs.session.NotedScript.end.Goals as goal
 

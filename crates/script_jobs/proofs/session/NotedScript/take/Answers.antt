@@ -1,15 +1,6 @@
-use Rattle.std.proofs.Common.{◌∙◌, ◌++◌, ap, refl}
-use Rattle.script_words.specs.Lines.{line_said}
-use Rattle.scope_script.specs.KeptLines.{kept}
-use Rattle.scope_script.specs.declared.session.run.Mode.TheVariants.{Replies}
-use Rattle.scope_script.proofs.Growing.{none_kept}
-use Rattle.scope_script.proofs.Taken.{takes_none, takes_line, leaves_rest, all_replied, stops_taking}
-use Rattle.script_jobs.specs.Begun.{Begun}
-use Rattle.script_jobs.specs.Noting.{noting_after}
-use Rattle.script_jobs.specs.Notes.{line_note}
-use Rattle.script_jobs.specs.Scripts.{noted_of, noting_of, plain_of}
-use Rattle.script_jobs.proofs.ByBytes.{notes_none, notes_line, notes_leave, notes_all, notes_stop}
-use Rattle.script_jobs.proofs.Growing.{plain_begun, plain_said}
+use Rattle.script_jobs.specs.{◌++◌, Begun.Begun, Replies, kept, line_note, line_said, noted_of, noting_after, noting_of, plain_of}
+use Rattle.script_jobs.proofs.Words.{◌∙◌, all_replied, ap, leaves_rest, none_kept, refl, stops_taking, takes_line, takes_none}
+use Rattle.script_jobs.proofs.{ByBytes.notes_all, ByBytes.notes_leave, ByBytes.notes_line, ByBytes.notes_none, ByBytes.notes_stop, Growing.plain_begun, Growing.plain_said}
 use Rattle.script_jobs.proofs.session.NotedScript.take.Goals as goal
 
 pub loop-line-init : goal.loop-line-init

@@ -1,8 +1,6 @@
 -- The lines before the rest were taken, answered and noted.
-use Rattle.std.proofs.Common.{length}
-use Rattle.scope_script.specs.declared.session.run.Mode.TheVariants.{Replies}
-use Rattle.scope_script.proofs.Taken.{Taken}
-use Rattle.script_jobs.specs.Scripts.{noted_of, plain_of}
+use Rattle.script_jobs.specs.{Replies, length, noted_of, plain_of}
+use Rattle.script_jobs.proofs.Words.{Taken}
 use Rattle.script_jobs.proofs.ByBytes.{NotesTaken}
 use Rattle.script_jobs.proofs.session.NotedScript.take.Given as goal
 

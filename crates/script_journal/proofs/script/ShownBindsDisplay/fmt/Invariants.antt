@@ -1,9 +1,9 @@
 -- The lines before the index were written.
 use Rattle.std.proofs.Common.{take}
 use Rattle.std.specs.Fmt.{HasWritten, IsPlainFormatter}
-use Rattle.script_journal.specs.Script.{binds_text}
+use Rattle.script_journal.specs.Script.{pairs_text}
 use Rattle.script_journal.proofs.script.ShownBindsDisplay.fmt.Given as goal
 
 abbrev pub invariant-loop-pair : goal.invariant-loop-pair
 invariant-loop-pair g l =
-    IsPlainFormatter l.fn.f → HasWritten g.W.Write.write_str_gives l.fn.f (binds_text (take l.pair-index l.self.0.now)) l.f
+    IsPlainFormatter l.fn.f → HasWritten g.W.Write.write_str_gives l.fn.f (pairs_text (take l.pair-index l.self.0.now)) l.f

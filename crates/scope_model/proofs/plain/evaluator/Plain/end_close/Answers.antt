@@ -1,7 +1,6 @@
 -- What was closed is whole.
-use Rattle.std.proofs.Common.{ap}
-use Rattle.scope_rules.specs.Replies.{Realm}
-use Rattle.scope_rules.proofs.ClosingScopes.{end_closes_whole}
+use Rattle.scope_model.specs.{Realm}
+use Rattle.scope_model.proofs.Words.{ap, end_closes_whole}
 use Rattle.scope_model.proofs.plain.evaluator.Plain.end_close.Goals as goal
 
 pub returns-clause-whole : goal.returns-clause-whole

@@ -1,8 +1,6 @@
 -- An accepted fork has a number for its task.
-use Rattle.std.proofs.Common.{◌≡◌, Ok, sym, ◌∙◌, arith}
-use Rattle.scope_rules.specs.declared.types.events.Event.TheVariants.{Fork}
-use Rattle.scope_rules.specs.Table.{check_of}
-use Rattle.scope_rules.proofs.Pushing.{fork_number}
+use Rattle.scope_model.specs.{◌≡◌, Fork, Ok, check_of}
+use Rattle.scope_model.proofs.Words.{◌∙◌, arith, fork_number, sym}
 use Rattle.scope_model.proofs.plain.evaluator.Plain.fork.Goals as goal
 
 pub overflow_add-task : goal.overflow_add-task

@@ -1,9 +1,6 @@
 -- The log of a scope that may be joined tells what the join would give.
-use Rattle.std.proofs.Common.{◌≡◌, Ok, Some, refl, sym, ap, ◌∙◌}
-use Rattle.scope_rules.specs.declared.types.events.Event.TheVariants.{Join}
-use Rattle.scope_rules.specs.Table.{check_of, row_check}
-use Rattle.scope_rules.proofs.Accepted.{checks_at}
-use Rattle.scope_log.proofs.LogJoins.{preview_told}
+use Rattle.scope_model.specs.{◌≡◌, Join, Ok, Some, check_of, row_check}
+use Rattle.scope_model.proofs.Words.{◌∙◌, ap, checks_at, preview_told, refl, sym}
 use Rattle.scope_model.proofs.plain.evaluator.Plain.join_preview.Goals as goal
 
 pub log-requires : goal.log-requires

@@ -1,13 +1,6 @@
 -- Logs are short within the limits, and a scope that is there has one.
-use Rattle.std.proofs.Common.{◌≡◌, ℕ, ◌+◌, ◌<◌, ◌≤◌, ◌^◌, length, sym, subst, ◌∙◌, arith}
-use Rattle.scope_rules.specs.declared.types.capacity.Limits.{Limits}
-use Rattle.scope_rules.specs.declared.types.capacity.TheConstants.{LOAD_LIMIT}
-use Rattle.scope_rules.specs.History.{History}
-use Rattle.scope_rules.specs.Legal.{Legal, IsWithin}
-use Rattle.scope_log.specs.Log.{entries}
-use Rattle.scope_log.proofs.LogPlaces.{log_there_where}
-use Rattle.scope_log.proofs.LogSizes.{entries_small}
-use Rattle.scope_log.proofs.LogTells.{entries_there}
+use Rattle.scope_model.specs.{ℕ, ◌+◌, ◌<◌, ◌^◌, ◌≡◌, ◌≤◌, Words.History, IsWithin, LOAD_LIMIT, Words.Legal, Limits, entries, length}
+use Rattle.scope_model.proofs.Words.{◌∙◌, arith, entries_small, entries_there, log_there_where, subst, sym}
 use Rattle.scope_model.proofs.plain.evaluator.Plain.log.Goals as goal
 
 short : (L M : Limits) (h : History) (s : ℕ) → M ≡ L → Legal L h → IsWithin L h → length (entries h s) + 1 < 2 ^ 32

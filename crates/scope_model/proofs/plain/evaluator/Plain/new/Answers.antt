@@ -1,5 +1,5 @@
-use Rattle.std.proofs.Common.{arith}
-use Rattle.scope_rules.specs.Origin.{the_start}
+use Rattle.scope_model.specs.{the_start}
+use Rattle.scope_model.proofs.Words.{arith}
 use Rattle.scope_model.proofs.KeptEvents.{events_start}
 use Rattle.scope_model.proofs.plain.evaluator.Plain.new.Goals as goal
 

@@ -1,8 +1,6 @@
 -- An accepted open has a number for its scope.
-use Rattle.std.proofs.Common.{◌≡◌, Ok, sym, ◌∙◌, arith}
-use Rattle.scope_rules.specs.declared.types.events.Event.TheVariants.{Open}
-use Rattle.scope_rules.specs.Table.{check_of}
-use Rattle.scope_rules.proofs.Pushing.{open_number}
+use Rattle.scope_model.specs.{◌≡◌, Ok, Open, check_of}
+use Rattle.scope_model.proofs.Words.{◌∙◌, arith, open_number, sym}
 use Rattle.scope_model.proofs.plain.evaluator.Plain.open.Goals as goal
 
 pub overflow_add-scope : goal.overflow_add-scope

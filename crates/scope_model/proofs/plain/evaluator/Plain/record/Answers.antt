@@ -1,8 +1,7 @@
 -- There is room for the event, and it is kept.
-use Rattle.std.proofs.Common.{vec_capacity, sym, subst, arith}
-use Rattle.scope_rules.specs.Replies.{Realm}
-use Rattle.scope_rules.specs.Legal.{Accepts}
-use Rattle.scope_model.proofs.KeptEvents.{events_more, event_fits}
+use Rattle.scope_model.specs.{Accepts, Realm}
+use Rattle.scope_model.proofs.Words.{arith, subst, sym, vec_capacity}
+use Rattle.scope_model.proofs.KeptEvents.{event_fits, events_more}
 use Rattle.scope_model.proofs.plain.evaluator.Plain.record.Goals as goal
 
 pub push_reserved-requires : goal.push_reserved-requires

@@ -1,7 +1,6 @@
-use Rattle.std.proofs.Common.{◌≡◌, ap, length, sym, ◌∙◌, arith}
-use Rattle.scope_rules.specs.Origin.{Origin}
-use Rattle.scope_rules.specs.Replies.{Realm, base_of}
-use Rattle.scope_model.proofs.KeptEvents.{events_start, base_fits}
+use Rattle.scope_model.specs.{◌≡◌, Words.Origin, Realm, base_of, length}
+use Rattle.scope_model.proofs.Words.{◌∙◌, ap, arith, sym}
+use Rattle.scope_model.proofs.KeptEvents.{base_fits, events_start}
 use Rattle.scope_model.proofs.plain.evaluator.Plain.reset.Goals as goal
 
 pub invariant_of-self : goal.invariant_of-self

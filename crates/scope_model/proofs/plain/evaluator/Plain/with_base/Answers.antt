@@ -1,6 +1,5 @@
-use Rattle.std.proofs.Common.{ap, length, ◌∙◌, arith}
-use Rattle.scope_rules.specs.Origin.{Origin}
-use Rattle.scope_rules.specs.Replies.{Realm}
+use Rattle.scope_model.specs.{Words.Origin, Realm, length}
+use Rattle.scope_model.proofs.Words.{◌∙◌, ap, arith}
 use Rattle.scope_model.proofs.KeptEvents.{events_start, made_start}
 use Rattle.scope_model.proofs.plain.evaluator.Plain.with_base.Goals as goal
 

@@ -1,9 +1,5 @@
 -- What the tasks so far gave.
-use Rattle.std.proofs.Common.{◌≡◌, ◌+◌}
-use Rattle.std.specs.List.{filter, range_with_len}
-use Rattle.scope_rules.specs.Answers.{listing_by}
-use Rattle.scope_rules.specs.Completions.{is_task_of}
-use Rattle.scope_rules.specs.Tasks.{state}
+use Rattle.scope_model.specs.{◌+◌, ◌≡◌, filter, is_task_of, listing_by, range_with_len, state}
 use Rattle.scope_model.proofs.scan.outcomes.ScopeTasksTaskReadings.listing.Given as goal
 
 abbrev pub invariant-loop-before : goal.invariant-loop-before

@@ -1,7 +1,5 @@
-use Rattle.std.proofs.Common.{◌<◌, sym, ap, ◌∙◌, length, arith}
-use Rattle.std.specs.Option.{option_or}
-use Rattle.scope_rules.specs.Bindings.{stack}
-use Rattle.scope_rules.proofs.Stacks.{bound_at, bound_to_none}
+use Rattle.scope_model.specs.{◌<◌, length, option_or, stack}
+use Rattle.scope_model.proofs.Words.{◌∙◌, ap, arith, bound_at, bound_to_none, sym}
 use Rattle.scope_model.proofs.scan.view.HistoryView.bound_on_stack.Goals as goal
 
 pub loop-index-init : goal.loop-index-init

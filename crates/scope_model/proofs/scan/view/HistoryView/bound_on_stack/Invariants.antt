@@ -1,6 +1,5 @@
 -- The value of the last of the pairs so far that has the key.
-use Rattle.std.proofs.Common.{◌≡◌, take}
-use Rattle.scope_rules.specs.Bindings.{stack, bound_to}
+use Rattle.scope_model.specs.{◌≡◌, bound_to, stack, take}
 use Rattle.scope_model.proofs.scan.view.HistoryView.bound_on_stack.Given as goal
 
 abbrev pub invariant-loop-index : goal.invariant-loop-index

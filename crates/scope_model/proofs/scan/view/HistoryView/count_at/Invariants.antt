@@ -1,7 +1,5 @@
 -- How many of the tasks so far are at the stage.
-use Rattle.std.proofs.Common.{◌≡◌, ◌+◌, ◌≤◌, count_by}
-use Rattle.std.specs.List.{range_with_len}
-use Rattle.scope_rules.specs.Tasks.{is_at}
+use Rattle.scope_model.specs.{◌+◌, ◌≡◌, ◌≤◌, count_by, is_at, range_with_len}
 use Rattle.scope_model.proofs.scan.view.HistoryView.count_at.Given as goal
 
 abbrev pub invariant-loop-before : goal.invariant-loop-before

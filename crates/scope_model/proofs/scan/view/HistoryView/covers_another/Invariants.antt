@@ -1,7 +1,5 @@
 -- Whether one of the scopes so far is another and covered.
-use Rattle.std.proofs.Common.{◌≡◌, ◌+◌}
-use Rattle.std.specs.List.{list_any, range_with_len}
-use Rattle.scope_rules.specs.Verdicts.{covers_other}
+use Rattle.scope_model.specs.{◌+◌, ◌≡◌, covers_other, list_any, range_with_len}
 use Rattle.scope_model.proofs.scan.view.HistoryView.covers_another.Given as goal
 
 abbrev pub invariant-loop-before : goal.invariant-loop-before

@@ -1,7 +1,5 @@
 -- No event so far ended the task.
-use Rattle.std.proofs.Common.{◌≡◌, None}
-use Rattle.scope_rules.specs.Search.{earliest}
-use Rattle.scope_rules.specs.Tasks.{ending_at}
+use Rattle.scope_model.specs.{◌≡◌, None, earliest, ending_at}
 use Rattle.scope_model.proofs.scan.view.HistoryView.ending.Given as goal
 
 abbrev pub invariant-loop-place : goal.invariant-loop-place

@@ -1,8 +1,6 @@
 -- Nothing was found so far.
-use Rattle.std.proofs.Common.{◌≡◌, None, cond}
-use Rattle.scope_rules.specs.Search.{earliest}
-use Rattle.scope_rules.specs.Joining.{has_failed, has_succeeded}
-use Rattle.scope_rules.specs.Outcomes.{readable_at}
+use Rattle.scope_model.specs.{◌≡◌, None, earliest, has_failed, has_succeeded, readable_at}
+use Rattle.scope_model.proofs.Words.{cond}
 use Rattle.scope_model.proofs.scan.view.HistoryView.first_read.Given as goal
 
 abbrev pub invariant-loop-place : goal.invariant-loop-place

@@ -1,7 +1,5 @@
 -- Whether one of the pairs so far differs.
-use Rattle.std.proofs.Common.{◌≡◌}
-use Rattle.scope_rules.specs.Search.{some_below}
-use Rattle.scope_rules.specs.Bindings.{stack, differ_at}
+use Rattle.scope_model.specs.{◌≡◌, differ_at, some_below, stack}
 use Rattle.scope_model.proofs.scan.view.HistoryView.has_same_pairs.Given as goal
 
 abbrev pub invariant-loop-index : goal.invariant-loop-index

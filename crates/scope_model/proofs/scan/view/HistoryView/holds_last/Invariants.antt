@@ -1,7 +1,5 @@
 -- Whether one of the scopes so far was opened while the last pair stood.
-use Rattle.std.proofs.Common.{◌≡◌, ◌+◌}
-use Rattle.std.specs.List.{list_any, range_with_len}
-use Rattle.scope_rules.specs.Bindings.{opened_above}
+use Rattle.scope_model.specs.{◌+◌, ◌≡◌, list_any, opened_above, range_with_len}
 use Rattle.scope_model.proofs.scan.view.HistoryView.holds_last.Given as goal
 
 abbrev pub invariant-loop-before : goal.invariant-loop-before

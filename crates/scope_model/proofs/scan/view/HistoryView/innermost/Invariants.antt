@@ -1,7 +1,5 @@
 -- The latest of the scopes so far.
-use Rattle.std.proofs.Common.{◌≡◌}
-use Rattle.scope_rules.specs.Search.{latest}
-use Rattle.scope_rules.specs.Scopes.{unclosed_of}
+use Rattle.scope_model.specs.{◌≡◌, latest, unclosed_of}
 use Rattle.scope_model.proofs.scan.view.HistoryView.innermost.Given as goal
 
 abbrev pub invariant-loop-count : goal.invariant-loop-count

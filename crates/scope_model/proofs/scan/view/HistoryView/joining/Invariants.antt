@@ -1,7 +1,5 @@
 -- Nothing was found so far.
-use Rattle.std.proofs.Common.{◌≡◌, None}
-use Rattle.scope_rules.specs.Search.{earliest}
-use Rattle.scope_rules.specs.Outcomes.{joining_at}
+use Rattle.scope_model.specs.{◌≡◌, None, earliest, joining_at}
 use Rattle.scope_model.proofs.scan.view.HistoryView.joining.Given as goal
 
 abbrev pub invariant-loop-place : goal.invariant-loop-place

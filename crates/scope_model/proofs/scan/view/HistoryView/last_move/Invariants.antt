@@ -1,7 +1,5 @@
 -- The last move of the events so far.
-use Rattle.std.proofs.Common.{◌≡◌, take}
-use Rattle.scope_rules.specs.Cancels.{move_of}
-use Rattle.scope_rules.specs.Search.{last_of}
+use Rattle.scope_model.specs.{◌≡◌, last_of, move_of, take}
 use Rattle.scope_model.proofs.scan.view.HistoryView.last_move.Given as goal
 
 abbrev pub invariant-loop-place : goal.invariant-loop-place

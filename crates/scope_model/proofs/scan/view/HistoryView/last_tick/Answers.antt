@@ -1,7 +1,5 @@
-use Rattle.std.proofs.Common.{ap, ◌∙◌}
-use Rattle.std.specs.Option.{option_or}
-use Rattle.scope_rules.specs.History.{tick_of}
-use Rattle.scope_rules.proofs.Prefixes.{last_of_more}
+use Rattle.scope_model.specs.{option_or, tick_of}
+use Rattle.scope_model.proofs.Words.{◌∙◌, ap, last_of_more}
 use Rattle.scope_model.proofs.scan.view.HistoryView.last_tick.Goals as goal
 
 pub loop-place-preserved : goal.loop-place-preserved

@@ -1,7 +1,5 @@
 -- The last tick of the events so far.
-use Rattle.std.proofs.Common.{◌≡◌, take}
-use Rattle.scope_rules.specs.History.{tick_of}
-use Rattle.scope_rules.specs.Search.{last_of}
+use Rattle.scope_model.specs.{◌≡◌, last_of, take, tick_of}
 use Rattle.scope_model.proofs.scan.view.HistoryView.last_tick.Given as goal
 
 abbrev pub invariant-loop-place : goal.invariant-loop-place

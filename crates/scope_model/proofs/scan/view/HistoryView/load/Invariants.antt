@@ -1,7 +1,5 @@
 -- The load of the base and the events so far.
-use Rattle.std.proofs.Common.{◌≡◌, ◌+◌, ◌*◌, ◌≤◌, length, take}
-use Rattle.std.specs.List.{sum_by}
-use Rattle.scope_rules.specs.Load.{weight}
+use Rattle.scope_model.specs.{◌*◌, ◌+◌, ◌≡◌, ◌≤◌, length, sum_by, take, weight}
 use Rattle.scope_model.proofs.scan.view.HistoryView.load.Given as goal
 
 abbrev pub invariant-loop-place : goal.invariant-loop-place

@@ -1,7 +1,5 @@
 -- Nothing was found so far.
-use Rattle.std.proofs.Common.{◌≡◌, None}
-use Rattle.scope_rules.specs.Search.{earliest}
-use Rattle.scope_rules.specs.Nests.{unclosed_after}
+use Rattle.scope_model.specs.{◌≡◌, None, earliest, unclosed_after}
 use Rattle.scope_model.proofs.scan.view.HistoryView.next_unclosed.Given as goal
 
 abbrev pub invariant-loop-count : goal.invariant-loop-count

@@ -1,7 +1,5 @@
 -- No event so far gave the scope its own cancel.
-use Rattle.std.proofs.Common.{◌≡◌, None}
-use Rattle.scope_rules.specs.Search.{earliest}
-use Rattle.scope_rules.specs.Cancels.{own_at}
+use Rattle.scope_model.specs.{◌≡◌, None, earliest, own_at}
 use Rattle.scope_model.proofs.scan.view.HistoryView.own.Given as goal
 
 abbrev pub invariant-loop-place : goal.invariant-loop-place

@@ -1,7 +1,5 @@
 -- Whether one of the tasks so far waits or runs.
-use Rattle.std.proofs.Common.{◌≡◌, ◌+◌}
-use Rattle.std.specs.List.{list_any, range_with_len}
-use Rattle.scope_rules.specs.Tasks.{is_unsettled}
+use Rattle.scope_model.specs.{◌+◌, ◌≡◌, is_unsettled, list_any, range_with_len}
 use Rattle.scope_model.proofs.scan.view.HistoryView.settled.Given as goal
 
 abbrev pub invariant-loop-before : goal.invariant-loop-before

@@ -1,6 +1,5 @@
 -- The pairs from below so far.
-use Rattle.std.proofs.Common.{◌≡◌, take}
-use Rattle.scope_rules.specs.Bindings.{stack}
+use Rattle.scope_model.specs.{◌≡◌, stack, take}
 use Rattle.scope_model.proofs.scan.view.HistoryView.stack.Given as goal
 
 abbrev pub invariant-loop-index : goal.invariant-loop-index

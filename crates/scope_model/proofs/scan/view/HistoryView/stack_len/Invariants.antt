@@ -1,7 +1,5 @@
 -- How many own pairs the actor has after the events so far.
-use Rattle.std.proofs.Common.{◌≡◌, ◌+◌, ◌≤◌, length}
-use Rattle.scope_rules.specs.History.{before}
-use Rattle.scope_rules.specs.Bindings.{stack, first_stack}
+use Rattle.scope_model.specs.{◌+◌, ◌≡◌, ◌≤◌, before, first_stack, length, stack}
 use Rattle.scope_model.proofs.scan.view.HistoryView.stack_len.Given as goal
 
 abbrev pub invariant-loop-place : goal.invariant-loop-place

@@ -1,5 +1,4 @@
-use Rattle.std.proofs.Common.{◌∙◌, arith}
-use Rattle.scope_rules.proofs.Stacks.{pair_more, height_more, height_bound}
+use Rattle.scope_model.proofs.Words.{◌∙◌, arith, height_bound, height_more, pair_more}
 use Rattle.scope_model.proofs.scan.view.HistoryView.stack_pair.Goals as goal
 
 pub loop-place-preserved : goal.loop-place-preserved

@@ -1,7 +1,5 @@
 -- The pair at the place after the events so far.
-use Rattle.std.proofs.Common.{◌≡◌, ◌+◌, ◌≤◌, length, slice_get}
-use Rattle.scope_rules.specs.History.{before}
-use Rattle.scope_rules.specs.Bindings.{stack, first_stack}
+use Rattle.scope_model.specs.{◌+◌, ◌≡◌, ◌≤◌, before, first_stack, length, slice_get, stack}
 use Rattle.scope_model.proofs.scan.view.HistoryView.stack_pair.Given as goal
 
 abbrev pub invariant-loop-place : goal.invariant-loop-place

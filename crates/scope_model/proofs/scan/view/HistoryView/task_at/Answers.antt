@@ -1,12 +1,9 @@
 -- The tasks of the scope are counted up to the place.
-use Rattle.std.proofs.Common.{◌≡◌, ◌+◌, ◌<◌, ◌≤◌, true, Some, length, ap, sym, subst, ◌∙◌, arith}
-use Rattle.std.specs.List.{filter, range_with_len}
-use Rattle.scope_rules.specs.History.{forked_count}
-use Rattle.scope_rules.specs.Completions.{is_task_of}
-use Rattle.scope_rules.specs.Nests.{tasks_of}
-use Rattle.scope_model.proofs.TaskPlaces.{counted_passed, counted_other, stands_there, none_there}
+use Rattle.scope_model.specs.{◌+◌, ◌<◌, ◌≡◌, ◌≤◌, Some, filter, forked_count, is_task_of, length, range_with_len, tasks_of}
+use Rattle.scope_model.proofs.Words.{◌∙◌, ap, arith, subst, sym, true}
+use Rattle.scope_model.proofs.TaskPlaces.{counted_other, counted_passed, none_there, stands_there}
+use Rattle.scope_model.proofs.scan.view.HistoryView.task_at.Goals.{else-is_task_of, then-is_task_of+else-passed-place}
 use Rattle.scope_model.proofs.scan.view.HistoryView.task_at.Goals as goal
-use Rattle.scope_model.proofs.scan.view.HistoryView.task_at.Goals.{then-is_task_of+else-passed-place, else-is_task_of}
 
 pub returns-then-passed-place : goal.returns-then-passed-place
 unfolding tasks_of

@@ -1,7 +1,5 @@
 -- How many of the tasks so far are the scope's: not more than the place.
-use Rattle.std.proofs.Common.{◌≡◌, ◌+◌, ◌≤◌, length}
-use Rattle.std.specs.List.{filter, range_with_len}
-use Rattle.scope_rules.specs.Completions.{is_task_of}
+use Rattle.scope_model.specs.{◌+◌, ◌≡◌, ◌≤◌, filter, is_task_of, length, range_with_len}
 use Rattle.scope_model.proofs.scan.view.HistoryView.task_at.Given as goal
 
 abbrev pub invariant-loop-before : goal.invariant-loop-before

@@ -1,7 +1,5 @@
-use Rattle.std.proofs.Common.{refl, arith}
-use Rattle.std.proofs.lemmas.Int.{ints, to_z-of_z}
-use Rattle.scope_rules.specs.Joining.{total_of}
-use Rattle.scope_rules.proofs.Completions.{total_at}
+use Rattle.scope_model.specs.{total_of}
+use Rattle.scope_model.proofs.Words.{arith, ints, refl, to_z-of_z, total_at}
 use Rattle.scope_model.proofs.scan.view.HistoryView.total.Goals as goal
 
 pub loop-place-init : goal.loop-place-init

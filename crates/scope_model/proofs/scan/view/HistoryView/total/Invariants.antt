@@ -1,8 +1,5 @@
 -- The sum over the events so far, within 2 ^ 63 for each of them.
-use Rattle.std.proofs.Common.{◌≡◌, ◌*◌, ◌^◌, take, pos, neg_ℤ, ◌≤ℤ◌}
-use Rattle.std.specs.List.{filter_map}
-use Rattle.scope_rules.specs.Joining.{total_of}
-use Rattle.scope_rules.specs.Completions.{completion_of}
+use Rattle.scope_model.specs.{◌*◌, ◌^◌, ◌≡◌, ◌≤ℤ◌, completion_of, filter_map, neg_ℤ, pos, take, total_of}
 use Rattle.scope_model.proofs.scan.view.HistoryView.total.Given as goal
 
 abbrev pub invariant-loop-place : goal.invariant-loop-place

@@ -1,7 +1,5 @@
 -- Whether one of the events so far began the close of the scope and covered another.
-use Rattle.std.proofs.Common.{◌≡◌}
-use Rattle.scope_rules.specs.Search.{some_below}
-use Rattle.scope_rules.specs.Verdicts.{violating_at}
+use Rattle.scope_model.specs.{◌≡◌, some_below, violating_at}
 use Rattle.scope_model.proofs.scan.view.HistoryView.violated.Given as goal
 
 abbrev pub invariant-loop-place : goal.invariant-loop-place

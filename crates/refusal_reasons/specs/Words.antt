@@ -1,0 +1,36 @@
+-- What the definitions of this crate take from the libraries below and from the types of its code, from one place.
+pub use Rattle.std.specs.List.{filter, find, flat_map, list_any, position, position_from, position_or_len}
+pub use Rattle.std.specs.Prelude.{[], ℕ, ◌&&◌, ◌++◌, ◌+◌, ◌-◌, ◌<◌, ◌==◌, ◌||◌, ◌∷◌, ◌≡◌, ◌≤◌, Bool, Err, IfErr, IfSome, List, None, Ok, OnOk, Option, Result, Some, codes, drop, false, if◌then◌else◌}
+pub use Rattle.std.specs.Prelude.{is_some, length, map, max, min, nat_le, nat_lt, not, option_map, replicate, slice_get, suc, take, true, unwrap_or, zero}
+pub use Rattle.std.specs.{Char.is_ascii_digit, Fmt.HasWritten, Fmt.IsPlainFormatter, Fmt.decimal, Option.option_and_then, Option.option_map_or, Option.option_or, Str.bytes_eq}
+pub use Rattle.scope_checks.specs.Passes.{Passes}
+pub use Rattle.scope_rules.specs.Checks.{Checked, Tried, actor_check, load_fits, not_closing, not_joined, owned, refusal_of, refuse_if, remade, scope_check, task_check}
+pub use Rattle.scope_rules.specs.History.{History, before, forked_count, opened_count, scopes, task_numbers, tasks}
+pub use Rattle.scope_rules.specs.Scopes.{begins_closing, closing_at, ends, have_one_opener, joins, unclosed_of}
+pub use Rattle.scope_rules.specs.Table.{answering, check_of, checked_then, fault_shown, owns_task, reading_row, retire_row, task_joined, until_row, value_shown}
+pub use Rattle.scope_rules.specs.{Load.over_scopes, Load.over_tasks, Load.weight, NameText.is_inner, NameText.is_letter, Names.text_of, Nests.unclosed_after, Owed.begin_mark, Owed.marks}
+pub use Rattle.scope_rules.specs.{Tasks.is_running, Tasks.is_settled, Tasks.is_waiting, Texts.fault_text, Texts.stage_word, Texts.value_text}
+pub use Rattle.scope_rules.specs.declared.types.answers.Stage.TheVariants.{Finished, Never, Running, Waiting}
+pub use Rattle.scope_rules.specs.declared.types.capacity.TheConstants.{FORK_LOAD, GREATEST_NUMBER, LEVEL_LIMIT, OPEN_LOAD, STEP_LOAD}
+pub use Rattle.scope_rules.specs.declared.types.events.Event.TheVariants.{BeginClose, Bind, Cancel, EndClose, Finish, Fork, Join, Move, Open, Reject, Start, Tick, Unbind}
+pub use Rattle.scope_rules.specs.declared.types.{answers.Stage.Stage, answers.State.State, capacity.Limits.Limits, checks.Failed.Failed, events.Event.Event, joiners.Policy.TheVariants.AwaitOk}
+pub use Rattle.scope_rules.specs.declared.types.{names.Name.Name, records.Forking.Forking, records.Opening.Opening, refusals.Refusal.Refusal, values.Value.Value}
+pub use Rattle.script_words.specs.{Fields.first_and_rest, Fields.is_space, Lines.begins_comment, Lines.line_of, Numbers.moment_said, Numbers.small_said, Openings.deadline_said, Openings.flag_said}
+pub use Rattle.script_words.specs.{Openings.found_or, Openings.is_empty, Openings.next_said, Steps.◌>>=◌}
+pub use Rattle.script_words.specs.declared.{commands.Command.Command, commands.Line.Line, commands.Line.TheVariants.BadWord, commands.Line.TheVariants.Silent, commands.Query.Query}
+pub use Rattle.script_words.specs.declared.{keywords.Keyword.Keyword, keywords.OneNumber.OneNumber, keywords.TwoNumbers.TwoNumbers, lines.TheConstants.LINE_LIMIT}
+pub use Rattle.refusal_reasons.specs.declared.{causes.Alien.Alien, causes.Cause.Cause, faults.WordFault.WordFault, line_places.Place.Place, line_shown.TheConstants.SHOWN_LIMIT}
+pub use Rattle.refusal_reasons.specs.declared.{reasons.ActorObstacle.ActorObstacle, reasons.Reason.Reason, reasons.RoomObstacle.RoomObstacle, reasons.ScopeObstacle.ScopeObstacle}
+pub use Rattle.refusal_reasons.specs.declared.{reasons.TaskObstacle.TaskObstacle, sentences.TheConstants.COMMANDS, sentences.TheConstants.OPTIONS, shapes.FieldKind.FieldKind, shapes.Shape.Shape}
+unfoldable pub use Rattle.std.specs.Char.{encode_utf8}
+unfoldable pub use Rattle.scope_rules.specs.Bindings.{bindings, bound_as_opened, bound_to, holds_last, stack}
+unfoldable pub use Rattle.scope_rules.specs.Checks.{checks, in_closing, is_innermost, known_actor, known_scope, known_task, owns, then_check}
+unfoldable pub use Rattle.scope_rules.specs.Scopes.{closed, closing, covers, innermost, joined, next_level}
+unfoldable pub use Rattle.scope_rules.specs.{Cancels.is_cancelled, Completions.is_task_of, History.forking, History.moment, History.opening, Legal.Legal, Load.load, Nests.inner, Nests.next_unclosed}
+unfoldable pub use Rattle.scope_rules.specs.{Nests.outermost, Nests.tasks_of, Replies.binding_reply, Replies.fault_reply, Replies.result_reply, Search.earliest, Search.some_below, Table.reading_check}
+unfoldable pub use Rattle.scope_rules.specs.{Table.retire_check, Table.row_check, Table.until_check, Tasks.ready, Tasks.settled, Tasks.stage, Tasks.state}
+unfoldable pub use Rattle.script_words.specs.Forms.{bind_said, fail_said, fork_said, form_said, get_said, move_said, new_deadline_said, number_alone, ok_said, one_number_said, tick_said, two_numbers}
+unfoldable pub use Rattle.script_words.specs.Forms.{two_numbers_said}
+unfoldable pub use Rattle.script_words.specs.Openings.{deadline_next, flag_next, open_said, opened, policy_next}
+unfoldable pub use Rattle.script_words.specs.{Fields.fields, Fields.just_one, Fields.just_three, Fields.just_two, Fields.without_spaces, Joiners.after, Joiners.policy_said, Keywords.keyword_said}
+unfoldable pub use Rattle.script_words.specs.{Lines.command_said, Lines.fields_said, Lines.line_said, Near.is_near, Words.name_said, Words.value_said}

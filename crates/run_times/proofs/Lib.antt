@@ -1,0 +1,3 @@
+mod Landed
+pub mod Placed
+mod Stamped

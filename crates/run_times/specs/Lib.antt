@@ -1,0 +1,2 @@
+pub mod Landmarks
+pub mod Stamps

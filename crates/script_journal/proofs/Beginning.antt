@@ -1,0 +1,90 @@
+-- The lines with which a script begins bring a fresh realm to the moment and to main's bindings.
+use Rattle.std.proofs.Common.{◌≡◌, ℕ, zero, suc, ◌<◌, ◌≤◌, ◌^◌, Some, List, [], ◌∷◌, ◌++◌, length, map, slice_get, codes, refl, sym, ap, ◌∙◌, subst, arith}
+use Rattle.std.proofs.lemmas.Option.{slice_get-map}
+use Rattle.std.specs.Fmt.{decimal, digits}
+use Rattle.scope_rules.specs.declared.types.capacity.Limits.{Limits}
+use Rattle.scope_rules.specs.declared.types.events.Binding.{Binding}
+use Rattle.scope_rules.specs.declared.types.events.Event.TheVariants as event
+use Rattle.scope_rules.specs.History.{History, opened_count}
+use Rattle.scope_rules.specs.Origin.{Origin, the_start}
+use Rattle.scope_rules.specs.Replies.{starting, base_of}
+use Rattle.scope_log.specs.Dues.{without_due}
+use Rattle.script_words.specs.declared.commands.Command.TheVariants.{Retire}
+use Rattle.script_words.specs.declared.commands.Line.TheVariants.{Command}
+use Rattle.script_words.specs.Lines.{line_said}
+use Rattle.script_words.specs.Spelling.{HasWords, IsValue, words_of}
+use Rattle.script_words.proofs.SpelledLines.{line_says_the_command}
+use Rattle.scope_script.specs.Replying.{reply_to, realm_after}
+use Rattle.script_journal.specs.Script.{event_line}
+use Rattle.script_journal.specs.Journals.{AllFit, BaseFits, Fits}
+use Rattle.script_journal.proofs.Accepted.{ruled}
+use Rattle.script_journal.proofs.Bases.{from, unnumbered, may_retire, tick_legal, tick_leaves, bind_of, binding, bound_there, none_opened, binds_legal, binds_leave}
+use Rattle.script_journal.proofs.PlayedLines.{retire_line, bind_line, moment_said, binds_said}
+use Rattle.script_journal.proofs.Running.{Plays, none_played, both_played, line_played, events_played}
+
+-- ---- a retirement
+
+retire_says : line_said retire_line ≡ Command (Retire 0)
+unfolding HasWords words_of digits
+retire_says = line_says_the_command (Retire 0) (omega arith)
+
+retires : (L : Limits) (h : History) (base : Origin) → opened_count h ≡ 0 → base_of h ≡ base → Plays (ruled L h) (starting L base) (retire_line ∷ [])
+unfolding realm_after reply_to
+retires L h base none leaves =
+    line_played (ruled L h) (starting L base) retire_line (Retire 0) retire_says (rw (may_retire h none) (ap (starting L) leaves)) (rw (may_retire h none) refl)
+
+-- ---- the moment
+
+tick_fits : (n : ℕ) → n < 2 ^ 64 → AllFit (event.Tick n ∷ [])
+unfolding HasWords
+tick_fits n small zero e at = let same : event.Tick n ≡ e = cc in subst Fits same small
+tick_fits n small (suc i) e at = absurd cc
+
+tick_line : (n : ℕ) → event_line the_start (event.Tick n) ≡ codes "tick " ++ decimal n
+unfolding event_line
+tick_line n = refl
+
+moment_played : (L : Limits) (n : ℕ) → 1 ≤ L.load → n < 2 ^ 64 → Plays (starting L the_start) (starting L (unnumbered n [])) (moment_said n)
+moment_played L zero some_load small = none_played (starting L the_start)
+moment_played L (suc n) some_load small =
+    let ticks = events_played L the_start (event.Tick (suc n) ∷ []) (tick_legal L (suc n) some_load) (tick_fits (suc n) small) in
+    let there : Plays (starting L the_start) (ruled L (from the_start (event.Tick (suc n) ∷ []))) ((codes "tick " ++ decimal (suc n)) ∷ []) = rw (tick_line (suc n)) at ticks in
+    both_played _ _ _ ((codes "tick " ++ decimal (suc n)) ∷ []) (retire_line ∷ []) there
+    (retires L (from the_start (event.Tick (suc n) ∷ [])) (unnumbered (suc n) []) refl (tick_leaves (suc n)))
+
+-- ---- main's bindings
+
+bind_fits : (pair : Binding) → IsValue pair.value → Fits (bind_of pair)
+unfolding HasWords
+bind_fits pair is = (omega arith, is)
+
+binds_fit : (pairs : List Binding) → ((i : ℕ) (pair : Binding) → slice_get pairs i ≡ Some pair → IsValue pair.value) → AllFit (map bind_of pairs)
+binds_fit pairs values i e at =
+    let it = bound_there (slice_get pairs i) e (sym (slice_get-map bind_of pairs i) ∙ at) in
+    subst Fits it.2 (bind_fits it.0 (values i it.0 it.1))
+
+bind_lines : (pairs : List Binding) → map (event_line the_start) (map bind_of pairs) ≡ map bind_line pairs
+unfolding event_line digits
+bind_lines [] = refl
+bind_lines (pair ∷ pairs) = ap (λ lines. bind_line pair ∷ lines) (bind_lines pairs)
+
+no_dues : (pairs : List Binding) → map without_due (map bind_of pairs) ≡ map bind_of pairs
+no_dues [] = refl
+no_dues (pair ∷ pairs) = ap (λ es. bind_of pair ∷ es) (no_dues pairs)
+
+module _ (L : Limits) (n : ℕ) where
+  bound : (pairs : List Binding) → length pairs ≤ L.load → ((i : ℕ) (pair : Binding) → slice_get pairs i ≡ Some pair → IsValue pair.value) → Plays (starting L (unnumbered n [])) (ruled L (binding n pairs)) (map bind_line pairs)
+  bound pairs loaded values =
+      rw (bind_lines pairs) at (rw (no_dues pairs) at (events_played L (unnumbered n []) (map bind_of pairs) (binds_legal L n pairs loaded) (binds_fit pairs values)))
+
+  binds_played : (pairs : List Binding) → length pairs ≤ L.load → ((i : ℕ) (pair : Binding) → slice_get pairs i ≡ Some pair → IsValue pair.value) → Plays (starting L (unnumbered n [])) (starting L (unnumbered n pairs)) (binds_said pairs)
+  binds_played [] loaded values = none_played (starting L (unnumbered n []))
+  binds_played (pair ∷ pairs) loaded values =
+      both_played _ _ _ (map bind_line (pair ∷ pairs)) (retire_line ∷ []) (bound (pair ∷ pairs) loaded values)
+      (retires L (binding n (pair ∷ pairs)) (unnumbered n (pair ∷ pairs)) (none_opened (pair ∷ pairs)) (binds_leave n (pair ∷ pairs)))
+
+-- ---- both
+
+pub begun : (L : Limits) (base : Origin) → BaseFits L base → Plays (starting L the_start) (starting L (unnumbered base.moment base.binds)) (moment_said base.moment ++ binds_said base.binds)
+begun L base fits =
+    both_played _ _ _ (moment_said base.moment) (binds_said base.binds) (moment_played L base.moment fits.some_load fits.moment) (binds_played L base.moment base.binds fits.loaded fits.values)

@@ -1,0 +1,12 @@
+-- The times of events, one event more.
+use Rattle.std.proofs.Common.{◌≡◌, ℕ, ◌+◌, List, [], ◌∷◌, ◌++◌, refl, arith}
+use Rattle.std.proofs.lemmas.List.FromFn.{map-range_with_len_more}
+use Rattle.tree_dump.specs.Kept.{stamp_at, stamps_to}
+
+pub stamps_none : (times : List ℕ) (now : ℕ) → stamps_to times now 0 ≡ []
+unfolding stamps_to
+stamps_none times now = refl
+
+pub stamps_more : (times : List ℕ) (now n : ℕ) → stamps_to times now (n + 1) ≡ stamps_to times now n ++ stamp_at times now n ∷ []
+unfolding stamps_to
+stamps_more times now n = map-range_with_len_more (stamp_at times now) 0 n n (omega arith)
