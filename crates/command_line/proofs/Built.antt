@@ -1,5 +1,6 @@
 -- What the application is to `clap`.
-use Rattle.command_line.specs.{◌||◌, ◌≡◌, Bool, false, is_simple_and_free, scopectl, true, with_jobs, with_rules}
+use Rattle.std.specs.Prelude.{◌||◌, ◌≡◌}
+use Rattle.command_line.specs.{Bool, false, is_simple_and_free, scopectl, true, with_jobs, with_rules}
 use Rattle.command_line.proofs.Words.{◌∙◌, ap, cond, refl}
 
 pub is_simple_app : is_simple_and_free scopectl ≡ true

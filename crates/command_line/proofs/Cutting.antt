@@ -1,6 +1,7 @@
 -- What a text NAME=MS says.
-use Rattle.command_line.specs.{[], ℕ, ◌≡◌, After, Bool, List, None, Option, Some, after_first, before_first, delay_said, false, greatest_of, is_equals, is_name, plain_number, position_or_len, true}
-use Rattle.command_line.proofs.Words.{◌+◌, ◌∙◌, Bor, IsSplitOnceResult, ap, arith, drop, drop_all, length, refl, split_once_first, sym}
+use Rattle.std.specs.Prelude.{◌+◌, ◌≡◌}
+use Rattle.command_line.specs.{[], ℕ, After, Bool, List, None, Option, Some, after_first, before_first, delay_said, false, greatest_of, is_equals, is_name, plain_number, position_or_len, true}
+use Rattle.command_line.proofs.Words.{◌∙◌, Bor, IsSplitOnceResult, ap, arith, drop, drop_all, length, refl, split_once_first, sym}
 use Rattle.command_line.proofs.Built.{same_either}
 
 -- ---- if `split_once` cuts

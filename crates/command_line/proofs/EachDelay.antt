@@ -1,6 +1,7 @@
 -- What texts say, text by text, if each says a delay.
-use Rattle.command_line.specs.{[], ℕ, ◌++◌, ◌∷◌, ◌≡◌, ◌≤◌, List, NameAndMillis, None, Option, Some, delay_said, each_said, map, option_and_then, option_map}
-use Rattle.command_line.proofs.Words.{◌+◌, ◌<◌, ◌∙◌, add-one, ap, append-nil, append_assoc, drop, drop-cons, drop_all, get_or, length, refl, sym}
+use Rattle.std.specs.Prelude.{◌++◌, ◌+◌, ◌<◌, ◌∷◌, ◌≡◌, ◌≤◌}
+use Rattle.command_line.specs.{[], ℕ, List, NameAndMillis, None, Option, Some, delay_said, each_said, map, option_and_then, option_map}
+use Rattle.command_line.proofs.Words.{◌∙◌, add-one, ap, append-nil, append_assoc, drop, drop-cons, drop_all, get_or, length, refl, sym}
 use Rattle.std.specs.Borrow.{Bor}
 
 abbrev Word : Type 0

@@ -1,7 +1,8 @@
 -- Numbers that are written plainly.
-use Rattle.command_line.specs.{[], ℕ, ◌&&◌, ◌==◌, ◌∷◌, ◌≡◌, ◌≤◌, AllDigits, Bool, IsNumeral, List, None, ParsesUnsigned, Some, digit_value, digits_value, false, is_digit, is_plain, list_all, nat_le}
+use Rattle.std.specs.Prelude.{◌&&◌, ◌<◌, ◌==◌, ◌^◌, ◌∷◌, ◌≡◌, ◌≤◌}
+use Rattle.command_line.specs.{[], ℕ, AllDigits, Bool, IsNumeral, List, None, ParsesUnsigned, Some, digit_value, digits_value, false, is_digit, is_plain, list_all, nat_le}
 use Rattle.command_line.specs.{not, plain_number, true, without_leading_plus}
-use Rattle.command_line.proofs.Words.{◌<◌, ◌^◌, ◌∙◌, Err, Ok, ap, arith, both, cond, digit_value_digit, le-leb, leb-true, length, refl, subst, sym, true≢false, without_leading_plus_none}
+use Rattle.command_line.proofs.Words.{◌∙◌, Err, Ok, ap, arith, both, cond, digit_value_digit, le-leb, leb-true, length, refl, subst, sym, true≢false, without_leading_plus_none}
 
 is_low : (d : ℕ) → is_digit d ≡ true → digit_value d < 10
 is_low d e =

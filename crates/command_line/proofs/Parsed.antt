@@ -1,5 +1,6 @@
 -- What a parse of the words comes to.
-use Rattle.command_line.specs.{[], ◌∷◌, ◌≡◌, ◌⊎◌, AnswersAlone, App, ErrorKind, Help, IsAmong, Kinds, LineFault, List, Memory, None, Option, Row, Some, TellsEntered, TellsKind, Text, Usage, Version}
+use Rattle.std.specs.Prelude.{◌∷◌, ◌≡◌, ◌⊎◌}
+use Rattle.command_line.specs.{[], AnswersAlone, App, ErrorKind, Help, IsAmong, Kinds, LineFault, List, Memory, None, Option, Row, Some, TellsEntered, TellsKind, Text, Usage, Version}
 use Rattle.command_line.specs.{entered_says, false, fault_of, is_empty, is_simple_and_free, line_said, option_map, scopectl, subcommand_of, true}
 use Rattle.command_line.proofs.Words.{◌∙◌, ap, cond, eqb-suc-zero, inl, inr, length, refl, subst, sym}
 use Rattle.command_line.proofs.Built.{is_simple_app}

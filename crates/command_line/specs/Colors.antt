@@ -1,5 +1,6 @@
 -- When output has colors.
-use Rattle.command_line.specs.Words.{ℕ, Always, Auto, ColorChoice, List, Never, None, Option, Some, bytes_eq, codes, if◌then◌else◌}
+use Rattle.std.specs.Prelude.{if◌then◌else◌}
+use Rattle.command_line.specs.Words.{ℕ, Always, Auto, ColorChoice, List, Never, None, Option, Some, bytes_eq, codes}
 
 -- the choice of this name
 abbrev pub choice_named : List ℕ → Option ColorChoice

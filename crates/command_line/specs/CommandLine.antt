@@ -1,8 +1,9 @@
 -- What the words of a command line say.
-use Rattle.command_line.specs.Words.{ℕ, ◌==◌, ◌||◌, ◌≡◌, After, Answers, Asked, Awaited, Bool, Check, Color, ColorChoice, CommandLine, Deadline, Depth, Dump, DumpFormat, Expect, Explain, File, First}
+use Rattle.std.specs.Prelude.{if◌then◌else◌, ◌==◌, ◌||◌, ◌≡◌}
+use Rattle.command_line.specs.Words.{ℕ, After, Answers, Asked, Awaited, Bool, Check, Color, ColorChoice, CommandLine, Deadline, Depth, Dump, DumpFormat, Expect, Explain, File, First}
 use Rattle.command_line.specs.Words.{Format, From, Generate, Job, Journal, Json, LOAD_LIMIT, Lenient, Lines, List, None, Notes, Option, Page as page_file, PictureOptions, Quiet, Quote, Replay, Row}
 use Rattle.command_line.specs.Words.{Rows, SCOPE_LIMIT, Scope, ScriptOptions, Second, Seed, Setting, Since, Some, StreamOptions, Strict, TASK_LIMIT, Text, Timeline, To, Trace, TraceEvents, Tree}
-use Rattle.command_line.specs.Words.{TreeAfter, TreeOptions, Until, ViewOptions, Width, bytes_eq, codes, false, fault_of, if◌then◌else◌, is_empty, map, option_and_then, option_map, option_map_or}
+use Rattle.command_line.specs.Words.{TreeAfter, TreeOptions, Until, ViewOptions, Width, bytes_eq, codes, false, fault_of, is_empty, map, option_and_then, option_map, option_map_or}
 use Rattle.command_line.specs.Words.{subcommand_of, true}
 use Rattle.command_line.specs.Settings.{NameAndMillis, Numbers, delay_of, given_in, has_in, number_by, numbers_by, numbers_of, texts_in}
 use Rattle.command_line.specs.{Application.scopectl, Colors.choice_said, Delays.delays_said, Jobs.job_named}

@@ -1,5 +1,6 @@
 -- The delays of a quote: `--after NAME=MS`, as often as it stands.
-use Rattle.command_line.specs.Words.{[], ℕ, ◌&&◌, ◌∷◌, Bool, List, None, Option, Some, bytes_eq, if◌then◌else◌, list_any, not, option_and_then, option_map, true}
+use Rattle.std.specs.Prelude.{◌&&◌, ◌∷◌, if◌then◌else◌}
+use Rattle.command_line.specs.Words.{[], ℕ, Bool, List, None, Option, Some, bytes_eq, list_any, not, option_and_then, option_map, true}
 use Rattle.command_line.specs.Settings.{NameAndMillis, delay_said}
 
 -- what the texts say, in order, if each says a delay

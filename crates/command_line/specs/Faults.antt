@@ -1,5 +1,6 @@
 -- Which fault a command line gets.
-use Rattle.command_line.specs.Words.{[], ℕ, ⊤, ◌∷◌, ◌≡◌, ◌≢◌, ◌⊎◌, ErrorKind, Help, IsAmong, LineFault, List, Memory, None, Option, Row, Some, Text, Usage, Version, codes, fault_of, option_map}
+use Rattle.std.specs.Prelude.{◌∷◌, ◌≡◌, ◌≢◌, ◌⊎◌}
+use Rattle.command_line.specs.Words.{[], ℕ, ⊤, ErrorKind, Help, IsAmong, LineFault, List, Memory, None, Option, Row, Some, Text, Usage, Version, codes, fault_of, option_map}
 use Rattle.command_line.specs.Words.{string_bytes, subcommand_of}
 use Rattle.command_line.specs.Application.{scopectl}
 

@@ -1,7 +1,8 @@
 -- The jobs: the word of each, and its options.
-use Rattle.command_line.specs.Words.{[], ℕ, ◌∷◌, After, Answers, Awaited, Check, Color, Deadline, Depth, Dump, Expect, Explain, File, Flag, Format, From, Generate, Job, Journal, Json, Lenient, Lines}
+use Rattle.std.specs.Prelude.{if◌then◌else◌, ◌∷◌}
+use Rattle.command_line.specs.Words.{[], ℕ, After, Answers, Awaited, Check, Color, Deadline, Depth, Dump, Expect, Explain, File, Flag, Format, From, Generate, Job, Journal, Json, Lenient, Lines}
 use Rattle.command_line.specs.Words.{List, Load, None, Notes, Option, Page as page_file, Quiet, Quote, Replay, Rows, Scope, Scopes, Seed, Setting, Since, Some, Strict, Tasks, Timeline, To, Trace}
-use Rattle.command_line.specs.Words.{TraceEvents, Tree, TreeAfter, Until, Width, bytes_eq, codes, if◌then◌else◌}
+use Rattle.command_line.specs.Words.{TraceEvents, Tree, TreeAfter, Until, Width, bytes_eq, codes}
 use Rattle.command_line.specs.declared.lines.Job.TheVariants.{Page}
 
 -- the jobs, in the order of help

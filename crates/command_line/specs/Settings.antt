@@ -1,8 +1,9 @@
 -- The options of a job, and what they say.
-use Rattle.command_line.specs.Words.{[], ℕ, ◌&&◌, ◌==◌, ◌∷◌, After, Answers, Awaited, Bool, Color, DAY_MILLIS, Deadline, Delay, Depth, Expect, Explain, FORMAT_LIMIT, File, Flag, Format, From, Journal}
+use Rattle.std.specs.Prelude.{if◌then◌else◌, ◌&&◌, ◌==◌, ◌∷◌}
+use Rattle.command_line.specs.Words.{[], ℕ, After, Answers, Awaited, Bool, Color, DAY_MILLIS, Deadline, Delay, Depth, Expect, Explain, FORMAT_LIMIT, File, Flag, Format, From, Journal}
 use Rattle.command_line.specs.Words.{Json, LEVEL_LIMIT, LINES_LIMIT, LOAD_LIMIT, Lenient, Limits, Lines, List, Load, MOMENT_LIMIT, None, Notes, Option, Page, Quiet, ROWS_LIMIT, Row, Rows, SCOPE_LIMIT}
 use Rattle.command_line.specs.Words.{SCOPE_NUMBER_LIMIT, SEED_LIMIT, Scope, Scopes, Seed, Setting, Since, Some, Strict, TASK_LIMIT, Tasks, To, Trace, TreeAfter, Until, WIDTH_LIMIT, Width, after_first}
-use Rattle.command_line.specs.Words.{all_of, before_first, bytes_eq, codes, digits_value, false, first_of, if◌then◌else◌, is_name, list_all, nat_le, not, option_and_then, option_map, option_map_or}
+use Rattle.command_line.specs.Words.{all_of, before_first, bytes_eq, codes, digits_value, false, first_of, is_name, list_all, nat_le, not, option_and_then, option_map, option_map_or}
 use Rattle.command_line.specs.Words.{text_of, unwrap_or}
 
 -- an option's name, without its hyphens; a file that stands alone has one too, by which a parse knows it

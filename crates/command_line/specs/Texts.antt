@@ -1,6 +1,7 @@
 -- The texts that the words ask for: help and the version.
-use Rattle.command_line.specs.Words.{[], ℕ, ◌++◌, ◌∷◌, ◌≡◌, ◌⊎◌, Bool, CHECK_HELP, Check, DUMP_HELP, Dump, GENERATE_HELP, Generate, HELP, Job, List, PAGE_HELP, QUOTE_HELP, Quote, REPLAY_HELP, Replay}
-use Rattle.command_line.specs.Words.{TIMELINE_HELP, TRACE_HELP, TREE_HELP, Timeline, TraceEvents, Tree, bytes_eq, codes, false, if◌then◌else◌, option_and_then, option_map_or, slice_get}
+use Rattle.std.specs.Prelude.{if◌then◌else◌, ◌++◌, ◌∷◌, ◌≡◌, ◌⊎◌}
+use Rattle.command_line.specs.Words.{[], ℕ, Bool, CHECK_HELP, Check, DUMP_HELP, Dump, GENERATE_HELP, Generate, HELP, Job, List, PAGE_HELP, QUOTE_HELP, Quote, REPLAY_HELP, Replay}
+use Rattle.command_line.specs.Words.{TIMELINE_HELP, TRACE_HELP, TREE_HELP, Timeline, TraceEvents, Tree, bytes_eq, codes, false, option_and_then, option_map_or, slice_get}
 use Rattle.command_line.specs.{Faults.AsksHelp, Faults.AsksVersion, Jobs.job_named}
 use Rattle.command_line.specs.declared.lines.Job.TheVariants.{Page}
 

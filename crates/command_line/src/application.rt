@@ -1,6 +1,7 @@
 //! The application as `clap` knows it: its commands and their options. Help and the version are texts of
 //! our own (`help`).
-ghost use Rattle.command_line.specs.{◌≡◌, IfOk, all_jobs, app_of, command_of, false, flag_rule, help_command, map, out-Command as fields_of, program, rule_of, scopectl, setting_rule, with_jobs};
+ghost use Rattle.std.specs.Prelude.{◌≡◌};
+ghost use Rattle.command_line.specs.{IfOk, all_jobs, app_of, command_of, false, flag_rule, help_command, map, out-Command as fields_of, program, rule_of, scopectl, setting_rule, with_jobs};
 ghost use Rattle.command_line.specs.{with_rules, with_subcommand};
 
 use crate::help;

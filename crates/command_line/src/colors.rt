@@ -1,5 +1,6 @@
 //! When output has colors.
-ghost use Rattle.command_line.specs.{◌≡◌, ◌⊎◌, IfErr, IfOk, IsUsageOrMemory, None, Some, choice_named, choice_said, option_map};
+ghost use Rattle.std.specs.Prelude.{◌≡◌, ◌⊎◌};
+ghost use Rattle.command_line.specs.{IfErr, IfOk, IsUsageOrMemory, None, Some, choice_named, choice_said, option_map};
 
 use crate::faults::LineFault;
 use std::alloc::Global;

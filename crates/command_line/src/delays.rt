@@ -1,5 +1,6 @@
 //! The delays of a quote: `--after NAME=MS`, as often as it stands.
-ghost use Rattle.command_line.specs.{◌≡◌, ◌⊎◌, IfErr, IfOk, IsUsageOrMemory, None, Some, are_apart, delay_of, delays_said, each_said, found_of, is_delayed, map, rows_of, text_of, texts_in};
+ghost use Rattle.std.specs.Prelude.{◌≡◌, ◌⊎◌};
+ghost use Rattle.command_line.specs.{IfErr, IfOk, IsUsageOrMemory, None, Some, are_apart, delay_of, delays_said, each_said, found_of, is_delayed, map, rows_of, text_of, texts_in};
 
 use crate::faults::LineFault;
 use crate::settings::{Delay, Setting, delay_said, refused_value, refused_words};

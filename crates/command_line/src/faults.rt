@@ -1,5 +1,6 @@
 //! Why a command line gives no command.
-ghost use Rattle.command_line.specs.{◌≡◌, Memory, Some, TellsKind, fault_text, kind_of};
+ghost use Rattle.std.specs.Prelude.{◌≡◌};
+ghost use Rattle.command_line.specs.{Memory, Some, TellsKind, fault_text, kind_of};
 
 use crate::hints::Hint;
 use clap::Error;

@@ -1,5 +1,6 @@
 //! The texts of the help and the version.
-ghost use Rattle.command_line.specs.{◌≡◌, has_help_word, help_in, help_of, help_of_job, map};
+ghost use Rattle.std.specs.Prelude.{◌≡◌};
+ghost use Rattle.command_line.specs.{has_help_word, help_in, help_of, help_of_job, map};
 
 use crate::lines::Job;
 

@@ -1,5 +1,6 @@
 //! From the program's words to the command that they say.
-ghost use Rattle.command_line.specs.{◌≡◌, ◌⊎◌, IfErr, IfOk, IsUsageOrMemory, None, Some, TellsEntered, TellsWord, all_jobs, command_word, entered_says, expected_of, file_of, flags_of, found_of};
+ghost use Rattle.std.specs.Prelude.{◌≡◌, ◌⊎◌};
+ghost use Rattle.command_line.specs.{IfErr, IfOk, IsUsageOrMemory, None, Some, TellsEntered, TellsWord, all_jobs, command_word, entered_says, expected_of, file_of, flags_of, found_of};
 ghost use Rattle.command_line.specs.{has_in, is_check, is_hyphen, job_named, line_said, map, option_map, rows_of, rows_say, said_by, said_of, settings_of, show_by, streams_by, streams_of};
 ghost use Rattle.command_line.specs.{subcommand_rows_of, value_of};
 ghost use Rattle.command_line.specs.Faults.{Answers};

@@ -1,5 +1,6 @@
 //! The options of a job, and what they say.
-ghost use Rattle.command_line.specs.{◌≡◌, ◌≤◌, ◌⊎◌, Bool, IfErr, IfOk, IfSome, IsUsageOrMemory, None, Some, delay_of, delay_said, first_of, flag_name, format_by, format_said, found_of, given_in};
+ghost use Rattle.std.specs.Prelude.{◌≡◌, ◌≤◌, ◌⊎◌};
+ghost use Rattle.command_line.specs.{Bool, IfErr, IfOk, IfSome, IsUsageOrMemory, None, Some, delay_of, delay_said, first_of, flag_name, format_by, format_said, found_of, given_in};
 ghost use Rattle.command_line.specs.{greatest_of, has_in, is_digit, is_plain, list_all, name_of, number_by, numbers_by, numbers_of, option_map, picture_by, plain_number, rows_of, script_by};
 ghost use Rattle.command_line.specs.{script_of, setting_number, tree_by, tree_said};
 

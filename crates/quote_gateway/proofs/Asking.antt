@@ -1,9 +1,10 @@
 -- How the scope of a request is opened, and how its tasks are forked one after the other.
-use Rattle.quote_gateway.specs.{[], ℕ, ◌++◌, ◌==◌, ◌∷◌, ◌≡◌, ◌≤◌, Accepts, Added, Agrees, Asked, Bool, Event, Fork, ForkReply, ForkedAs, Forking, GoesOn, Happened, HasForked, History, IsLegal}
+use Rattle.std.specs.Prelude.{◌++◌, ◌+◌, ◌==◌, ◌||◌, ◌∷◌, ◌≡◌, ◌≤◌}
+use Rattle.quote_gateway.specs.{[], ℕ, Accepts, Added, Agrees, Asked, Bool, Event, Fork, ForkReply, ForkedAs, Forking, GoesOn, Happened, HasForked, History, IsLegal}
 use Rattle.quote_gateway.specs.{IsOpenHere, IsOpenOf, KeepsScopes, KeepsTasks, LabelValue, Legal, Limits, List, Mode, Open, Opening, Opens, Options, OwnerValue, Policy, RealmStep, Reject, Retirement}
 use Rattle.quote_gateway.specs.{SeesMore, Some, TokenOf, advance, advanced, asked, base_of, false, filter, followed, fork_reply, fresh, history_of, history_seen, is_cancelled, is_task_of, label, map}
 use Rattle.quote_gateway.specs.{nests, opening, policy_of, rejected, scopes, shapes, task_in, task_numbers, tasks, tasks_of, true}
-use Rattle.quote_gateway.proofs.Words.{◌+◌, ◌||◌, ◌∙◌, HasNoTask, advanced-append, ap, append-nil, arith, both_ways, cond, eq-eqb, eqb-true, false_from_ne_true, fork_passed, forked_opened, forks_for}
+use Rattle.quote_gateway.proofs.Words.{◌∙◌, HasNoTask, advanced-append, ap, append-nil, arith, both_ways, cond, eq-eqb, eqb-true, false_from_ne_true, fork_passed, forked_opened, forks_for}
 use Rattle.quote_gateway.proofs.Words.{if_one, innermost_opened, innermost_unclosed, legal_history, map-append, next_forking, no_task_of, numbers_grow, opened_after, option_map, refl, rejected_grows}
 use Rattle.quote_gateway.proofs.Words.{subst, sym, tasks_forked, tasks_kept}
 use Rattle.quote_gateway.proofs.Following.{labels_stay, task_is}

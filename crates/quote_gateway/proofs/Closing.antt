@@ -1,5 +1,6 @@
 -- What the close of a request's scope adds, with a report or without.
-use Rattle.quote_gateway.specs.{[], ℕ, ◌++◌, ◌∷◌, Already, BeginClose, Begins, Cancelling, CloseReport, ClosesBare, ClosesDown, ClosesHere, Ends, EndsScope, Err, Happened, IsLegal, IsOk, KeepsTasks}
+use Rattle.std.specs.Prelude.{◌++◌, ◌∷◌}
+use Rattle.quote_gateway.specs.{[], ℕ, Already, BeginClose, Begins, Cancelling, CloseReport, ClosesBare, ClosesDown, ClosesHere, Ends, EndsScope, Err, Happened, IsLegal, IsOk, KeepsTasks}
 use Rattle.quote_gateway.specs.{List, OwnerValue, RealmStep, Recorded, Refusal, Result, SeesMore, StaysBegunHere, StaysHere, TeamValue, Verdict, end_step, map, numbers, shapes}
 use Rattle.quote_gateway.proofs.Words.{Ok, beginning_legal, inl, inr, refl, subst, sym}
 use Rattle.quote_gateway.proofs.Going.{added, agreed, for_first, goes_on, looked, sees_on, tokens_on}

@@ -1,9 +1,10 @@
 -- What the close of a request's scope leaves: the scope is closed, and its actor's innermost scope is the one that it
 -- was before the request.
-use Rattle.quote_gateway.specs.{[], ℕ, ◌++◌, ◌<◌, ◌∷◌, ◌≡◌, Accepts, Bool, EndClose, Ends, EndsScope, Event, GoesOn, Happened, History, IsBeginning, IsLegal, IsOpenOf, IsOpenedFor, KeepsInnermost}
+use Rattle.std.specs.Prelude.{◌++◌, ◌+◌, ◌<◌, ◌∷◌, ◌≡◌}
+use Rattle.quote_gateway.specs.{[], ℕ, Accepts, Bool, EndClose, Ends, EndsScope, Event, GoesOn, Happened, History, IsBeginning, IsLegal, IsOpenOf, IsOpenedFor, KeepsInnermost}
 use Rattle.quote_gateway.specs.{Legal, Limits, List, None, Open, Opens, Options, OwnerValue, Policy, RealmStep, SeesMore, Some, TableId, closed, end_step, ended, followed, history_of, history_seen}
 use Rattle.quote_gateway.specs.{innermost, latest, map, nests, opening, scopes, shapes, true, unused}
-use Rattle.quote_gateway.proofs.Words.{◌+◌, ◌∙◌, ap, append_assoc, arith, beginning_legal, closed_now, history-push, history_ended, innermost_ended, innermost_still, last_passes, legal_history}
+use Rattle.quote_gateway.proofs.Words.{◌∙◌, ap, append_assoc, arith, beginning_legal, closed_now, history-push, history_ended, innermost_ended, innermost_still, last_passes, legal_history}
 use Rattle.quote_gateway.proofs.Words.{length, map-append, next_opening, refl, subst, sym}
 use Rattle.quote_gateway.proofs.Asking.{opened_here, scopes_later}
 use Rattle.quote_gateway.proofs.Following.{Follows, before_there, follows_event, follows_on, follows_same, opening_after}

@@ -1,7 +1,8 @@
 -- What a history says that goes on by events, and what it said before.
-use Rattle.quote_gateway.specs.{[], ℕ, ◌++◌, ◌∷◌, ◌≡◌, ◌≤◌, Bool, Event, Forking, History, LabelValue, Legal, Limits, List, None, Opening, Option, Outcome, Some, before, entry_in, false, filter}
+use Rattle.std.specs.Prelude.{◌++◌, ◌||◌, ◌∷◌, ◌≡◌, ◌≤◌}
+use Rattle.quote_gateway.specs.{[], ℕ, Bool, Event, Forking, History, LabelValue, Legal, Limits, List, None, Opening, Option, Outcome, Some, before, entry_in, false, filter}
 use Rattle.quote_gateway.specs.{followed, forking, is_task_of, joining, label, listing_by, map, opening, outcome, outcome_of, rejected, rejects, state, task_numbers, tasks_of, true}
-use Rattle.quote_gateway.proofs.Words.{◌||◌, ◌∙◌, and_then_some, ap, append-nil, append_assoc, arith, cases_Bool, eq-eqb, forking_stays, inl, inr, joining_inside, joining_stays, later, length}
+use Rattle.quote_gateway.proofs.Words.{◌∙◌, and_then_some, ap, append-nil, append_assoc, arith, cases_Bool, eq-eqb, forking_stays, inl, inr, joining_inside, joining_stays, later, length}
 use Rattle.quote_gateway.proofs.Words.{like_at_join, opening_stays, option_map, outcome_stays, refl, rejected_grows, subst, sym, take-append-le, take_all, task_there}
 
 -- h begins as g did, with the events of g, and goes on

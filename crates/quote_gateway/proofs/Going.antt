@@ -1,8 +1,9 @@
 -- How lists of steps go on one after the other, and what stays so if an actor's scope is open.
-use Rattle.quote_gateway.specs.{[], ℕ, ◌++◌, ◌∷◌, ◌≡◌, Accepts, Adds, Agrees, Ask, Asked, Bool, EndClose, Event, Fork, GoesOn, Happened, History, IsBeginning, IsLegal, IsOpenOf, Legal, LegalFrom}
+use Rattle.std.specs.Prelude.{◌++◌, ◌||◌, ◌∷◌, ◌≡◌}
+use Rattle.quote_gateway.specs.{[], ℕ, Accepts, Adds, Agrees, Ask, Asked, Bool, EndClose, Event, Fork, GoesOn, Happened, History, IsBeginning, IsLegal, IsOpenOf, Legal, LegalFrom}
 use Rattle.quote_gateway.specs.{Limits, List, Looks, Open, Opening, OwnerValue, Passes, RealmStep, Retirement, SeesMore, Some, TokenOf, advance, advanced, asked, closed, ends, false, followed, fresh}
 use Rattle.quote_gateway.specs.{history_of, is_event, is_own, list_any, nests, shapes, true}
-use Rattle.quote_gateway.proofs.Words.{◌||◌, ◌∙◌, advanced-append, ap, append-nil, append_assoc, beginning_legal, both_ways, closed_grows, ender_passed, eq-eqb, false_from_ne_true, history-push}
+use Rattle.quote_gateway.proofs.Words.{◌∙◌, advanced-append, ap, append-nil, append_assoc, beginning_legal, both_ways, closed_grows, ender_passed, eq-eqb, false_from_ne_true, history-push}
 use Rattle.quote_gateway.proofs.Words.{legal_advance, legal_beginning, legal_history, list_any-append, none_narrower, nothing_open, opening_stays, or_from, refl, retired_without_scopes, subst, sym}
 
 -- ---- whose such steps are

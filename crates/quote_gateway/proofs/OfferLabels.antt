@@ -1,6 +1,7 @@
 -- The labels of a plan's offers, one by one.
-use Rattle.quote_gateway.specs.{[], ℕ, ◌++◌, ◌∷◌, ◌≡◌, ◌≤◌, List, Named, None, Some, label_of, map}
-use Rattle.quote_gateway.proofs.Words.{◌+◌, add-one, ap, length, refl, slice_get, suc, take, take_all, zero}
+use Rattle.std.specs.Prelude.{◌++◌, ◌+◌, ◌∷◌, ◌≡◌, ◌≤◌}
+use Rattle.quote_gateway.specs.{[], ℕ, List, Named, None, Some, label_of, map}
+use Rattle.quote_gateway.proofs.Words.{add-one, ap, length, refl, slice_get, suc, take, take_all, zero}
 
 one_more : (offers : List Named) (i : ℕ) (named : Named) → slice_get offers i ≡ Some named → map label_of (take (suc i) offers) ≡ map label_of (take i offers) ++ label_of named ∷ []
 one_more [] i named at = absurd cc

@@ -1,8 +1,9 @@
 -- How the states of a request's tasks are read, once its scope is joined.
-use Rattle.quote_gateway.specs.{[], ℕ, ◌++◌, ◌<◌, ◌∷◌, ◌≡◌, Bool, Checked, Err, HasForked, HasJoined, History, IsOpenHere, IsTaskHere, Joined, Joins, KeepsTasks, LabelValue, List, Looked, Outcome}
+use Rattle.std.specs.Prelude.{if◌then◌else◌, ◌++◌, ◌+◌, ◌<◌, ◌∷◌, ◌≡◌}
+use Rattle.quote_gateway.specs.{[], ℕ, Bool, Checked, Err, HasForked, HasJoined, History, IsOpenHere, IsTaskHere, Joined, Joins, KeepsTasks, LabelValue, List, Looked, Outcome}
 use Rattle.quote_gateway.specs.{OwnerValue, Refusal, Result, SeesMore, Some, State, TaskState, answering, entry_in, false, history_seen, is_task_of, listing_by, outcome, shapes, slice_index_or, state}
 use Rattle.quote_gateway.specs.{task_check, task_numbers, tasks_of, true}
-use Rattle.quote_gateway.proofs.Words.{◌+◌, ◌∙◌, Ok, ap, filter_passes, if◌then◌else◌, legal_history, length, map-append, subst, sym, take, take-map, take_more, task_passes, task_there}
+use Rattle.quote_gateway.proofs.Words.{◌∙◌, Ok, ap, filter_passes, legal_history, length, map-append, subst, sym, take, take-map, take_more, task_passes, task_there}
 use Rattle.quote_gateway.proofs.Following.{Follows, listing_joined, outcome_after, task_after, tasks_joined}
 use Rattle.quote_gateway.proofs.{Asking.forked_still, Asking.here_still, Ending.follows_going, Going.looked, Going.shapes_find, Turned.join_keeps}
 

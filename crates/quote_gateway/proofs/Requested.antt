@@ -1,5 +1,6 @@
 -- What a request comes to, from the open of its scope to the end of its close.
-use Rattle.quote_gateway.specs.{[], ℕ, ◌++◌, ◌∷◌, ◌≡◌, Answer, Answers, EndsScope, Err, Fails, FindsNone, Fork, ForkTurnedDown, GatewayFault, GoesOn, Happened, HasForked, HasRejected, IsBeginning}
+use Rattle.std.specs.Prelude.{◌++◌, ◌∷◌, ◌≡◌}
+use Rattle.quote_gateway.specs.{[], ℕ, Answer, Answers, EndsScope, Err, Fails, FindsNone, Fork, ForkTurnedDown, GatewayFault, GoesOn, Happened, HasForked, HasRejected, IsBeginning}
 use Rattle.quote_gateway.specs.{IsFound, IsRejectedIn, IsScopeFor, IsStepIn, IsTurnedDown, KeepsInnermost, KeepsScopes, List, MakesAnswer, MakesNone, MatchResult, NoneRests, Open, Opens, OpensNone}
 use Rattle.quote_gateway.specs.{Options, Outcome, OwnerValue, PlanValue, RestsOn, Result, SeesMore, Some, TaskState, WasCancelled, WasRefused, WasRejected, WasServed, end_step, history_of}
 use Rattle.quote_gateway.specs.{history_seen, label, labels_of, listing_by, map, nests, outcome, policy_of, shapes, state, step_check, tasks_of}

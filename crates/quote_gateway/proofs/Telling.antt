@@ -1,5 +1,6 @@
 -- What was told of the moment stays told.
-use Rattle.quote_gateway.specs.{[], ℕ, ◌++◌, ◌∷◌, ◌≡◌, ◌≤◌, Accepts, Ask, Asked, EndClose, EndsScope, Err, Event, GoesOn, History, IsOpenHere, IsOpenOf, IsSome, IsTold, KeepsTasks, Limits, List, None}
+use Rattle.std.specs.Prelude.{◌++◌, ◌∷◌, ◌≡◌, ◌≤◌}
+use Rattle.quote_gateway.specs.{[], ℕ, Accepts, Ask, Asked, EndClose, EndsScope, Err, Event, GoesOn, History, IsOpenHere, IsOpenOf, IsSome, IsTold, KeepsTasks, Limits, List, None}
 use Rattle.quote_gateway.specs.{OnOk, Option, OwnerValue, Pulsed, RealmStep, Result, Some, ended, followed, history_of, history_seen, moment, row_check, shapes}
 use Rattle.quote_gateway.proofs.Words.{◌∙◌, Ok, ap, arith, checks_at, history_ended, ltb-false, moment_grows, not_refused, refl}
 use Rattle.scope_rules.specs.declared.types.events.Event.TheVariants.{Tick}

@@ -1,5 +1,6 @@
 -- What a join by a clock leaves in a request.
-use Rattle.quote_gateway.specs.{ℕ, ◌≡◌, ◌≤◌, Asked, Bool, ClockBack, Err, Event, FindsNone, GatewayFault, HasForked, HasJoined, History, IsLegal, IsOfCall, IsOpenHere, IsRejectedIn, IsSome, IsStepIn}
+use Rattle.std.specs.Prelude.{◌≡◌, ◌≤◌}
+use Rattle.quote_gateway.specs.{ℕ, Asked, Bool, ClockBack, Err, Event, FindsNone, GatewayFault, HasForked, HasJoined, History, IsLegal, IsOfCall, IsOpenHere, IsRejectedIn, IsSome, IsStepIn}
 use Rattle.quote_gateway.specs.{IsTold, IsTurnedDown, Joined, JoinsBy, JoinsThen, KeepsTasks, LabelValue, Limits, List, MatchResult, Memory, None, Option, OwnerValue, PlanValue, Pulsed, Refusal}
 use Rattle.quote_gateway.specs.{Result, STEP_LOAD, SeesMore, Some, StaysUnclosed, Stopped, StopsClosing, Tick, Waited, WaitsToClose, began, check_of, checks, false, history_of, history_seen}
 use Rattle.quote_gateway.specs.{looked as has_looked, moment, over_load, read, row_check, shapes, step_check, then_check, ticked, true}

@@ -1,5 +1,6 @@
 -- What a call leaves that was refused while a request was served, and why it was.
-use Rattle.quote_gateway.specs.{[], ℕ, ◌++◌, ◌∷◌, ◌≡◌, ◌⊎◌, Asked, Before, DidOrMemory, DoesInRoom, Err, Fork, ForkReply, ForkTurnedDown, ForkWhy, ForkedAs, ForksJob, ForksRejected, GatewayFault}
+use Rattle.std.specs.Prelude.{◌++◌, ◌∷◌, ◌≡◌, ◌⊎◌}
+use Rattle.quote_gateway.specs.{[], ℕ, Asked, Before, DidOrMemory, DoesInRoom, Err, Fork, ForkReply, ForkTurnedDown, ForkWhy, ForkedAs, ForksJob, ForksRejected, GatewayFault}
 use Rattle.quote_gateway.specs.{Happened, HasLooked, HasRejected, IsBeginning, IsOfCall, IsOneOf, IsOpenHere, IsRefusedAt, IsRejectedIn, IsSome, IsTurnedDown, Join, Joined, Joins, KeepsInnermost}
 use Rattle.quote_gateway.specs.{KeepsScopes, KeepsTasks, LabelValue, List, Memory, None, Open, OpensNone, Option, Options, OutOfMemory, OwnerValue, PlanValue, Policy, Pulsed, RealmStep, Refusal}
 use Rattle.quote_gateway.specs.{Refused, Reject, Rejected, Result, SeesMore, Some, Thread, Tick, history_seen, nests, next_scope, refusal_of, step_check}

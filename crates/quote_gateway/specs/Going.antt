@@ -1,5 +1,6 @@
 -- How a token's list of steps goes on while a request is served in a scope of its actor.
-use Rattle.quote_gateway.specs.Words.{ℕ, ◌++◌, ◌==◌, ◌∷◌, ◌≡◌, ◌≢◌, ◌⊎◌, Accepted, Bool, EndClose, Ends, Err, Event, Fork, ForkReply, GatewayFault, Happened, History, IsLegal, IsOpenOf, LabelValue}
+use Rattle.std.specs.Prelude.{◌++◌, ◌==◌, ◌∷◌, ◌≡◌, ◌≢◌, ◌⊎◌}
+use Rattle.quote_gateway.specs.Words.{ℕ, Accepted, Bool, EndClose, Ends, Err, Event, Fork, ForkReply, GatewayFault, Happened, History, IsLegal, IsOpenOf, LabelValue}
 use Rattle.quote_gateway.specs.Words.{Limits, List, Memory, Never, Open, Options, Outcome, OwnerValue, Policy, RealmStep, Refusal, Some, Thread, false, history_of, history_seen, innermost, is_event}
 use Rattle.quote_gateway.specs.Words.{is_task_of, label, list_any, map, next_scope, outcome, rejected, reply_there, step_check, tasks_of, true}
 

@@ -1,6 +1,7 @@
 -- What a request comes to, and on what that rests: all is said of the history that the token of its context has
 -- seen by then.
-use Rattle.quote_gateway.specs.Words.{[], ℕ, ◌<◌, ◌≡◌, ◌≤◌, ◌⊎◌, AllowedText, Answer, Answers, Asked, DoesOrMemory, Fail, Fork, GatewayFault, Happened, HasExpired, History, IfSome, IsCancelled, Join}
+use Rattle.std.specs.Prelude.{◌<◌, ◌≡◌, ◌≤◌, ◌⊎◌}
+use Rattle.quote_gateway.specs.Words.{[], ℕ, AllowedText, Answer, Answers, Asked, DoesOrMemory, Fail, Fork, GatewayFault, Happened, HasExpired, History, IfSome, IsCancelled, Join}
 use Rattle.quote_gateway.specs.Words.{List, MatchResult, MoveOn, NoAnswer, None, Open, Opening, Option, Options, Outcome, OwnerValue, PartText, PlanValue, Policy, RealmStep, Refusal, Result, Some}
 use Rattle.quote_gateway.specs.Words.{TaskState, Tick, closed, false, history_seen, label, labels_of, listing_by, map, moment, opening, outcome, policy_of, scopes, state, tasks_of, true}
 use Rattle.quote_gateway.specs.Going.{HasRejected, IsOneOf, IsRefusedAt, IsTurnedDown}

@@ -1,4 +1,5 @@
-ghost use Rattle.quote_gateway.specs.{◌≡◌, ◌≢◌, IsOfCall, fault_of};
+ghost use Rattle.std.specs.Prelude.{◌≡◌, ◌≢◌};
+ghost use Rattle.quote_gateway.specs.{IsOfCall, fault_of};
 
 use quote_plan::NoAnswer;
 use scope_rules::Refusal;

@@ -1,5 +1,6 @@
 //! Whether jobs are those of a plan's offers, by their labels.
-ghost use Rattle.quote_gateway.specs.{◌↔◌, ◌≡◌, IsTrue, labels_in, labels_of};
+ghost use Rattle.std.specs.Prelude.{◌↔◌, ◌≡◌};
+ghost use Rattle.quote_gateway.specs.{IsTrue, labels_in, labels_of};
 
 use job_runner::{Answers, NamedJob};
 use quote_plan::Plan;

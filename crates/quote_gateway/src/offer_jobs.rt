@@ -1,5 +1,6 @@
 //! Jobs that end as the offers of a plan say.
-ghost use Rattle.quote_gateway.specs.{◌≡◌, IfOk, IfSome, is_some, label_of, labels_in, labels_of, list_any, same_name, true};
+ghost use Rattle.std.specs.Prelude.{◌≡◌};
+ghost use Rattle.quote_gateway.specs.{IfOk, IfSome, is_some, label_of, labels_in, labels_of, list_any, same_name, true};
 
 use job_runner::{Answers, Job, NamedJob, SystemClock, TaskCtx};
 use quote_plan::{Offer, Plan};

@@ -1,5 +1,6 @@
 //! What is done for a request in its scope.
-ghost use Rattle.quote_gateway.specs.{[], ℕ, ◌↔◌, ◌∷◌, ◌≡◌, Allows, EndsScope, Finds, ForkTurnedDown, ForkedAs, HasForked, HasJoined, IfErr, IfOk, IsOpenHere, IsPartial, IsTaskHere, IsTrue};
+ghost use Rattle.std.specs.Prelude.{◌↔◌, ◌∷◌, ◌≡◌};
+ghost use Rattle.quote_gateway.specs.{[], ℕ, Allows, EndsScope, Finds, ForkTurnedDown, ForkedAs, HasForked, HasJoined, IfErr, IfOk, IsOpenHere, IsPartial, IsTaskHere, IsTrue};
 ghost use Rattle.quote_gateway.specs.{IsTurnedDown, KeepsScopes, KeepsTasks, MakesBy, Opens, OpensNone, SeesMore, answer_text, history_seen, labels_in, labels_of, listing_by, policy_of, state};
 ghost use Rattle.quote_gateway.specs.{task_in};
 ghost use Rattle.join_rules.specs.Joiners.{policy_of as policy_stored};

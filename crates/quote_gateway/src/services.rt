@@ -1,5 +1,6 @@
 //! A request in a realm of its own, with which a service may begin.
-ghost use Rattle.quote_gateway.specs.{◌↔◌, ◌≡◌, AllowedText, AllowedTextBy, ComesTo, Err, HasExpired, IfErr, IfOk, IsTold, MatchResult, None, OnOk, answer_text, history_seen, innermost, labels_in};
+ghost use Rattle.std.specs.Prelude.{◌↔◌, ◌≡◌};
+ghost use Rattle.quote_gateway.specs.{AllowedText, AllowedTextBy, ComesTo, Err, HasExpired, IfErr, IfOk, IsTold, MatchResult, None, OnOk, answer_text, history_seen, innermost, labels_in};
 ghost use Rattle.quote_gateway.specs.{labels_of, moving_on, unused, without_deadline};
 
 use crate::faults::GatewayFault;

@@ -1,5 +1,6 @@
 //! Serving requests over the context of a service.
-ghost use Rattle.quote_gateway.specs.{[], ◌↔◌, ◌≡◌, AllowedText, AllowedTextBy, Allows, ComesTo, Err, Fails, FailsBy, Finds, HasForked, IfErr, IfOk, IsBeginning, IsTold, KeepsInnermost, KeepsScopes};
+ghost use Rattle.std.specs.Prelude.{◌↔◌, ◌≡◌};
+ghost use Rattle.quote_gateway.specs.{[], AllowedText, AllowedTextBy, Allows, ComesTo, Err, Fails, FailsBy, Finds, HasForked, IfErr, IfOk, IsBeginning, IsTold, KeepsInnermost, KeepsScopes};
 ghost use Rattle.quote_gateway.specs.{OnOk, RestsOn, SeesMore, answer_text, history_seen, labels_in, labels_of, moving_on, without_deadline};
 
 use crate::faults::GatewayFault;

@@ -1,5 +1,6 @@
 //! Until when a request is served.
-ghost use Rattle.quote_gateway.specs.{ℕ, ◌↔◌, ◌≡◌, Allows, Err, Finds, HasExpired, HasForked, IfErr, IfOk, IsOpenHere, IsSome, IsTold, IsTrue, KeepsTasks, OnOk, Option, Options, Pulsed, SeesMore};
+ghost use Rattle.std.specs.Prelude.{◌↔◌, ◌≡◌};
+ghost use Rattle.quote_gateway.specs.{ℕ, Allows, Err, Finds, HasExpired, HasForked, IfErr, IfOk, IsOpenHere, IsSome, IsTold, IsTrue, KeepsTasks, OnOk, Option, Options, Pulsed, SeesMore};
 ghost use Rattle.quote_gateway.specs.{Some, answer_text, history_seen, labels_of, moving_on, without_deadline};
 
 use crate::faults::GatewayFault;

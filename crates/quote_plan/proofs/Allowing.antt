@@ -1,7 +1,8 @@
 -- An answer that rests on ends that are the offers' is one that the plan allows.
-use Rattle.quote_plan.specs.{[], ℕ, ◌∷◌, ◌≡◌, AllHavePrices, AllowedAll, AllowedAnswer, AllowedFirst, AllowedFor, AllowedText, Answer, Answers, AreDueSoFar, AreDueValues, Bool, Err, Fails, FaultValue}
+use Rattle.std.specs.Prelude.{if◌then◌else◌, ◌∷◌, ◌≡◌}
+use Rattle.quote_plan.specs.{[], ℕ, AllHavePrices, AllowedAll, AllowedAnswer, AllowedFirst, AllowedFor, AllowedText, Answer, Answers, AreDueSoFar, AreDueValues, Bool, Err, Fails, FaultValue}
 use Rattle.quote_plan.specs.{HasPrice, IfOk, IsLostOrMemory, IsNoAnswer, IsPart, List, MatchResult, Mode, Name, Named, NoAnswer, None, Num, Offer, Ok, Option, Outcome, PlanValue, Price, Quote, Result}
-use Rattle.quote_plan.specs.{Some, State, TaskState, TaskValue, Text, Value, answer_text, available, cons_option, dues_of, failed_answer, failed_by, false, first_answer, first_by, if◌then◌else◌}
+use Rattle.quote_plan.specs.{Some, State, TaskState, TaskValue, Text, Value, answer_text, available, cons_option, dues_of, failed_answer, failed_by, false, first_answer, first_by}
 use Rattle.quote_plan.specs.{int_eq, offer_of, option_and_then, quote_in, quote_there, quotes_in, same_name, slice_get, state_due, true}
 use Rattle.quote_plan.proofs.Words.{◌∙◌, ap, inl, inr, option_map, refl, slice_get-map, subst, suc, sym, zero}
 

@@ -1,5 +1,6 @@
 -- The best of some quotes.
-use Rattle.quote_plan.specs.{[], ℕ, ◌++◌, ◌<ℤ◌, ◌∷◌, ◌≡◌, ◌≤ℤ◌, ◌⊎◌, IsBest, List, Quote, Some, length, slice_get}
+use Rattle.std.specs.Prelude.{◌++◌, ◌<ℤ◌, ◌∷◌, ◌≡◌, ◌≤ℤ◌, ◌⊎◌}
+use Rattle.quote_plan.specs.{[], ℕ, IsBest, List, Quote, Some, length, slice_get}
 use Rattle.quote_plan.proofs.Words.{ap, arith, inl, inr, ints, refl, slice_get_within, subst, suc, sym, zero}
 
 module _ (last : Quote) where

@@ -1,5 +1,6 @@
 -- Why the line that the reading of a plan has come to is a bad one.
-use Rattle.quote_plan.specs.{[], ℕ, ◌++◌, ◌+◌, ◌-◌, ◌<◌, ◌==◌, ◌∷◌, ◌≡◌, List, PlanLine, PlanWhy, ReadingValue, false, is_feed, length, lines_of, modes_in, nat_lt, offers_in, slice_split, take, true}
+use Rattle.std.specs.Prelude.{◌++◌, ◌+◌, ◌-◌, ◌<◌, ◌==◌, ◌∷◌, ◌≡◌}
+use Rattle.quote_plan.specs.{[], ℕ, List, PlanLine, PlanWhy, ReadingValue, false, is_feed, length, lines_of, modes_in, nat_lt, offers_in, slice_split, take, true}
 use Rattle.quote_plan.specs.{why_at, why_of, why_of_last, why_of_piece}
 use Rattle.quote_plan.proofs.Words.{◌∙◌, ap, append_assoc, arith, eqb-true, get_or-append_seam, le-ltb, length-append, length-slice_split, lt-ltb, refl, suc, sym, take-append_seam}
 use Rattle.quote_plan.proofs.Progress.{HasRead}

@@ -1,5 +1,6 @@
 -- Where a text is cut first.
-use Rattle.quote_plan.specs.{[], ℕ, ◌++◌, ◌+◌, ◌<◌, ◌∷◌, ◌≡◌, ◌≤◌, Bool, CutsLine, HasNoFeed, List, None, Some, false, get_or, is_feed, length, nat_lt, position, position_or_len, slice_split, take}
+use Rattle.std.specs.Prelude.{◌++◌, ◌+◌, ◌<◌, ◌∷◌, ◌≡◌, ◌≤◌}
+use Rattle.quote_plan.specs.{[], ℕ, Bool, CutsLine, HasNoFeed, List, None, Some, false, get_or, is_feed, length, nat_lt, position, position_or_len, slice_split, take}
 use Rattle.quote_plan.specs.{true}
 use Rattle.quote_plan.proofs.Words.{◌∙◌, ap, arith, cond, drop, fails_before_first, get_or-take, length-take-le, ltb-false, nat_tests, position-Some, position_or_len_is, refl, slice_split-cons_no}
 use Rattle.quote_plan.proofs.Words.{slice_split_first, split_at_first, subst}

@@ -1,5 +1,6 @@
 -- Whether states are those that are due, place by place.
-use Rattle.quote_plan.specs.{[], ℕ, ◌<◌, ◌==◌, ◌↔◌, ◌∷◌, ◌≡◌, Bool, IsTrue, List, Some, false, get_or, length, map, slice_get, true}
+use Rattle.std.specs.Prelude.{◌<◌, ◌==◌, ◌↔◌, ◌∷◌, ◌≡◌}
+use Rattle.quote_plan.specs.{[], ℕ, Bool, IsTrue, List, Some, false, get_or, length, map, slice_get, true}
 use Rattle.quote_plan.proofs.Words.{◌∙◌, ap, arith, eq-eqb, eqb-true, option_map, refl, slice_get-map, slice_get_read, suc, sym}
 
 module _ {A : Type 0} where

@@ -1,5 +1,6 @@
 -- Nothing is wrong with the words of an offer exactly if they are in a good form.
-use Rattle.quote_plan.specs.{[], ℕ, ℤ, ◌>>=◌, ◌∷◌, ◌≡◌, Bool, Fault, List, Name, None, Option, PlanLine, PlanWhy, Some, failing_said, false, fault_said, if◌then◌else◌, is_none, is_runtime_text}
+use Rattle.std.specs.Prelude.{◌∷◌, ◌≡◌, if◌then◌else◌}
+use Rattle.quote_plan.specs.{[], ℕ, ℤ, ◌>>=◌, Bool, Fault, List, Name, None, Option, PlanLine, PlanWhy, Some, failing_said, false, fault_said, is_none, is_runtime_text}
 use Rattle.quote_plan.specs.{is_some, just_three, just_two, name_said, offer_said, option_or, price_said, priced_said, true, unless_runtime, why_of_end, why_of_fault, why_of_fault_named, why_of_offer}
 use Rattle.quote_plan.specs.{why_of_price}
 use Rattle.quote_plan.proofs.Words.{refl}

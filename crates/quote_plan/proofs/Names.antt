@@ -1,5 +1,6 @@
 -- A name among the names of offers.
-use Rattle.quote_plan.specs.{[], ◌&&◌, ◌++◌, ◌==◌, ◌∷◌, ◌≡◌, Bool, List, Name, Named, Offer, both_true, bytes_decides, false, insert_entry, is_named, is_some, lookup, nat_eq, pointwise, same_name}
+use Rattle.std.specs.Prelude.{◌&&◌, ◌++◌, ◌==◌, ◌∷◌, ◌≡◌}
+use Rattle.quote_plan.specs.{[], Bool, List, Name, Named, Offer, both_true, bytes_decides, false, insert_entry, is_named, is_some, lookup, nat_eq, pointwise, same_name}
 use Rattle.quote_plan.specs.{take, text_of, true}
 use Rattle.quote_plan.proofs.Words.{◌∙◌, ap, eq-eqb, eqb-true, refl, same_text, sym}
 

@@ -1,5 +1,6 @@
 -- What is wrong with the words after an offer's name, by how many they are.
-use Rattle.quote_plan.specs.{[], ℕ, ◌∷◌, ◌≡◌, List, NoForm, None, Option, PlanWhy, Some, just_one, just_two, why_of_end, why_of_failing, why_of_price}
+use Rattle.std.specs.Prelude.{◌∷◌, ◌≡◌}
+use Rattle.quote_plan.specs.{[], ℕ, List, NoForm, None, Option, PlanWhy, Some, just_one, just_two, why_of_end, why_of_failing, why_of_price}
 use Rattle.quote_plan.proofs.Words.{refl}
 
 abbrev pub why_of_two : Option (List ℕ × List ℕ) → Option PlanWhy

@@ -1,5 +1,6 @@
 -- How the reading of a plan goes on that comes piece by piece.
-use Rattle.quote_plan.specs.{[], ℕ, ◌++◌, ◌+◌, ◌<◌, ◌==◌, ◌∷◌, ◌≡◌, AreGood, BadWord, CutsLine, FirstBad, HasNoFeed, HasTaken, List, NamesLine, Passed, PlanFault, PlanSoFar, PlanValue, PlanWhy}
+use Rattle.std.specs.Prelude.{◌++◌, ◌+◌, ◌<◌, ◌==◌, ◌∷◌, ◌≡◌}
+use Rattle.quote_plan.specs.{[], ℕ, AreGood, BadWord, CutsLine, FirstBad, HasNoFeed, HasTaken, List, NamesLine, Passed, PlanFault, PlanSoFar, PlanValue, PlanWhy}
 use Rattle.quote_plan.specs.{ReadingValue, SayPlan, StandsFor, false, is_feed, is_good, length, line_said, lines_of, long, map, may_come, may_follow, mode_in, modes_in, offer_in, offers_in}
 use Rattle.quote_plan.specs.{pieces_said, same, slice_split, true, why_at, why_of, with_line}
 use Rattle.quote_plan.proofs.Words.{◌∙◌, All-append, All-nil, ap, append-nil, append_assoc, arith, below_more, eqb-true, length-append, length-map, length-slice_split, map-append, ne_eqb, refl}

@@ -1,5 +1,6 @@
 -- The prices of the offers, one by one.
-use Rattle.quote_plan.specs.{[], ℕ, ◌++◌, ◌+◌, ◌∷◌, ◌≡◌, ◌≤◌, List, Named, None, Option, Quote, Some, TaskState, available, cons_option, length, option_and_then, option_to_list, quote_in, quote_there}
+use Rattle.std.specs.Prelude.{◌++◌, ◌+◌, ◌∷◌, ◌≡◌, ◌≤◌}
+use Rattle.quote_plan.specs.{[], ℕ, List, Named, None, Option, Quote, Some, TaskState, available, cons_option, length, option_and_then, option_to_list, quote_in, quote_there}
 use Rattle.quote_plan.specs.{quotes_in, slice_get, take}
 use Rattle.quote_plan.proofs.Words.{◌∙◌, add-one, ap, append-nil, arith, refl, suc, take_all, zero}
 

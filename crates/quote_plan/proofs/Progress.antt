@@ -1,5 +1,6 @@
 -- How far the reading of a plan has come.
-use Rattle.quote_plan.specs.{[], ℕ, ◌++◌, ◌+◌, ◌<◌, ◌==◌, ◌∷◌, ◌≡◌, ◌≤◌, AreGood, FirstBad, IsSome, IsTrue, List, None, Option, PlanLine, PlanValue, ReadingValue, RefusedAt, SayPlan, Some}
+use Rattle.std.specs.Prelude.{◌++◌, ◌+◌, ◌<◌, ◌==◌, ◌∷◌, ◌≡◌, ◌≤◌}
+use Rattle.quote_plan.specs.{[], ℕ, AreGood, FirstBad, IsSome, IsTrue, List, None, Option, PlanLine, PlanValue, ReadingValue, RefusedAt, SayPlan, Some}
 use Rattle.quote_plan.specs.{cons_option, cut_said, false, filter_map, get_or, is_feed, is_good, length, line_said, lines_of, may_come, may_follow, mode_in, modes_in, offer_in, offers_in}
 use Rattle.quote_plan.specs.{option_to_list, pieces_said, slice_split, take, true, with_line}
 use Rattle.quote_plan.proofs.Words.{◌∙◌, ap, append-nil, append_assoc, arith, below_more, eqb-true, filter_map-append, get_or-append, get_or-append_seam, inl, inr, length-append, length-slice_split}

@@ -1,5 +1,6 @@
 -- What is kept of a begun line says what the line says, and why it is bad.
-use Rattle.quote_plan.specs.{ℕ, ◌<◌, ◌≡◌, BadWord, Bool, LINE_LIMIT, List, Mode, Named, None, PlanWhy, Some, StandsFor, false, fields, if◌then◌else◌, is_return, is_tab, length, line_said, list_any}
+use Rattle.std.specs.Prelude.{◌<◌, ◌≡◌, if◌then◌else◌}
+use Rattle.quote_plan.specs.{ℕ, BadWord, Bool, LINE_LIMIT, List, Mode, Named, None, PlanWhy, Some, StandsFor, false, fields, is_return, is_tab, length, line_said, list_any}
 use Rattle.quote_plan.specs.{long, nat_lt, same, true, unwrap_or, why_after, why_of, why_of_bytes}
 use Rattle.quote_plan.proofs.Words.{◌∙◌, ap, lt-ltb, refl, sym}
 

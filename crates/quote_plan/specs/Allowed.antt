@@ -1,5 +1,6 @@
 -- Which answers a plan allows.
-use Rattle.quote_plan.specs.Words.{[], ℕ, ◌<ℤ◌, ◌<◌, ◌∷◌, ◌≡◌, ◌≤ℤ◌, ◌≤◌, ◌⊎◌, Answer, Fails, FaultValue, List, Mode, Name, None, Offer, Option, Price, Quote, Some, filter_map, slice_get}
+use Rattle.std.specs.Prelude.{◌<ℤ◌, ◌<◌, ◌∷◌, ◌≡◌, ◌≤ℤ◌, ◌≤◌, ◌⊎◌}
+use Rattle.quote_plan.specs.Words.{[], ℕ, Answer, Fails, FaultValue, List, Mode, Name, None, Offer, Option, Price, Quote, Some, filter_map, slice_get}
 use Rattle.quote_plan.specs.{AnswerText.answer_text, Plans.Named, Plans.PlanValue}
 
 abbrev pub priced : Name → Offer → Option Quote

@@ -1,5 +1,6 @@
 -- The lines of the answers.
-use Rattle.quote_plan.specs.Words.{ℕ, ◌++◌, Answer, List, Quote, codes, flat_map, signed_decimal, text_of}
+use Rattle.std.specs.Prelude.{◌++◌}
+use Rattle.quote_plan.specs.Words.{ℕ, Answer, List, Quote, codes, flat_map, signed_decimal, text_of}
 
 -- `NAME=PRICE`
 abbrev pub quote_text : Quote → List ℕ

@@ -1,6 +1,7 @@
 -- The answer that the ends of a plan's jobs make.
-use Rattle.quote_plan.specs.Words.{[], ℕ, ◌<◌, ◌==◌, ◌∷◌, ◌≡◌, ◌⊎◌, Answer, Fails, FaultValue, List, Mode, Name, NoAnswer, None, Num, Offer, Option, Outcome, Price, Quote, Some, State, TaskState}
-use Rattle.quote_plan.specs.Words.{TaskValue, Value, cons_option, if◌then◌else◌, int_eq, length, map, option_and_then, position, same_name, slice_get}
+use Rattle.std.specs.Prelude.{if◌then◌else◌, ◌<◌, ◌==◌, ◌∷◌, ◌≡◌, ◌⊎◌}
+use Rattle.quote_plan.specs.Words.{[], ℕ, Answer, Fails, FaultValue, List, Mode, Name, NoAnswer, None, Num, Offer, Option, Outcome, Price, Quote, Some, State, TaskState}
+use Rattle.quote_plan.specs.Words.{TaskValue, Value, cons_option, int_eq, length, map, option_and_then, position, same_name, slice_get}
 use Rattle.quote_plan.specs.{Allowed.AllowedBest, Allowed.AllowedText, Allowed.PartText, Allowed.quote_in, Allowed.quotes_in, AnswerText.answer_text, Plans.Named, Plans.PlanValue}
 
 -- the state of a task that ended as the offer says

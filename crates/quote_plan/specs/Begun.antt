@@ -1,5 +1,6 @@
 -- What is kept of a line that is begun.
-use Rattle.quote_plan.specs.Words.{[], ℕ, ◌&&◌, ◌++◌, ◌<◌, ◌==◌, ◌∷◌, ◌≡◌, Bool, LINE_LIMIT, List, if◌then◌else◌, length, list_any, not}
+use Rattle.std.specs.Prelude.{◌&&◌, ◌++◌, ◌<◌, ◌==◌, ◌∷◌, ◌≡◌, if◌then◌else◌}
+use Rattle.quote_plan.specs.Words.{[], ℕ, Bool, LINE_LIMIT, List, length, list_any, not}
 use Rattle.quote_plan.specs.PlanWhys.{is_return, is_tab}
 
 -- what is kept stands for the line: it is the line, or both are too long, and have carriage returns and tabs alike

@@ -1,5 +1,6 @@
 -- The lines of a plan.
-use Rattle.quote_plan.specs.Words.{ℕ, ◌++◌, ◌==◌, ◌∷◌, ◌≡◌, Bool, List, false}
+use Rattle.std.specs.Prelude.{◌++◌, ◌==◌, ◌∷◌, ◌≡◌}
+use Rattle.quote_plan.specs.Words.{ℕ, Bool, List, false}
 use Rattle.std.specs.List.{All}
 
 -- the line feed

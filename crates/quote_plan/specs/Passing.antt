@@ -1,5 +1,6 @@
 -- How far a plan has been read that comes piece by piece.
-use Rattle.quote_plan.specs.Words.{ℕ, ◌++◌, ◌+◌, ◌≡◌, List, Memory, PlanFault, Word, length, map, slice_split}
+use Rattle.std.specs.Prelude.{◌++◌, ◌+◌, ◌≡◌}
+use Rattle.quote_plan.specs.Words.{ℕ, List, Memory, PlanFault, Word, length, map, slice_split}
 use Rattle.quote_plan.specs.PlanReading.{AreGood, FirstBad, lines_of, modes_in, offers_in}
 use Rattle.quote_plan.specs.{Begun.StandsFor, Cutting.HasNoFeed, Cutting.is_feed, PlanLines.line_said, PlanWhys.why_at, ReadSoFar.ReadingValue}
 

@@ -1,5 +1,6 @@
 -- What a fault in reading a plan says of it.
-use Rattle.quote_plan.specs.Words.{ℕ, ◌≡◌, List, Memory, PlanFault, PlanLine, Word}
+use Rattle.std.specs.Prelude.{◌≡◌}
+use Rattle.quote_plan.specs.Words.{ℕ, List, Memory, PlanFault, PlanLine, Word}
 use Rattle.quote_plan.specs.{PlanReading.FirstBad, PlanReading.RefusedAt, PlanWhys.why_at}
 
 -- a bad word names the first bad line; memory can only be refused for an offer, and no line up to that

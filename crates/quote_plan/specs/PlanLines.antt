@@ -1,6 +1,7 @@
 -- What one line of a plan says.
-use Rattle.quote_plan.specs.Words.{[], ℕ, ℤ, ◌>>=◌, ◌||◌, ◌∷◌, Bool, Fault, LINE_LIMIT, List, Mode, None, Offer, Option, PRICE_LIMIT, PlanLine, Some, begins_comment, bytes_eq, codes, fields}
-use Rattle.quote_plan.specs.Words.{if◌then◌else◌, just_one, just_three, just_two, length, moment_said, name_said, nat_le, nat_lt, option_or, pos, text_of}
+use Rattle.std.specs.Prelude.{if◌then◌else◌, ◌||◌, ◌∷◌}
+use Rattle.quote_plan.specs.Words.{[], ℕ, ℤ, ◌>>=◌, Bool, Fault, LINE_LIMIT, List, Mode, None, Offer, Option, PRICE_LIMIT, PlanLine, Some, begins_comment, bytes_eq, codes, fields}
+use Rattle.quote_plan.specs.Words.{just_one, just_three, just_two, length, moment_said, name_said, nat_le, nat_lt, option_or, pos, text_of}
 
 -- the mode that the word is
 unfoldable pub mode_said : List ℕ → Option Mode

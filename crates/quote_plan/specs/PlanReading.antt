@@ -1,5 +1,6 @@
 -- What plan the bytes are, or which line of them is the first bad one.
-use Rattle.quote_plan.specs.Words.{[], ℕ, ◌&&◌, ◌+◌, ◌<◌, ◌∷◌, ◌≡◌, ◌⊎◌, Bool, IsSome, IsTrue, List, Mode, Name, None, OFFER_LIMIT, Option, PlanLine, Some, false, filter_map, get_or, length, list_any}
+use Rattle.std.specs.Prelude.{◌&&◌, ◌+◌, ◌<◌, ◌∷◌, ◌≡◌, ◌⊎◌}
+use Rattle.quote_plan.specs.Words.{[], ℕ, Bool, IsSome, IsTrue, List, Mode, Name, None, OFFER_LIMIT, Option, PlanLine, Some, false, filter_map, get_or, length, list_any}
 use Rattle.quote_plan.specs.Words.{nat_lt, not, same_name, slice_split, take, true}
 use Rattle.quote_plan.specs.{Cutting.is_feed, PlanLines.line_said, Plans.Named, Plans.PlanValue}
 

@@ -1,5 +1,6 @@
 -- Why a line of a plan is a bad one.
-use Rattle.quote_plan.specs.Words.{[], ℕ, ◌+◌, ◌-◌, ◌==◌, ◌∷◌, Bool, LINE_LIMIT, List, Mode, Name, None, OFFER_LIMIT, Option, PlanLine, PlanWhy, Some, bytes_eq, codes, fields, get_or, if◌then◌else◌}
+use Rattle.std.specs.Prelude.{◌+◌, ◌-◌, ◌==◌, ◌∷◌, if◌then◌else◌}
+use Rattle.quote_plan.specs.Words.{[], ℕ, Bool, LINE_LIMIT, List, Mode, Name, None, OFFER_LIMIT, Option, PlanLine, PlanWhy, Some, bytes_eq, codes, fields, get_or}
 use Rattle.quote_plan.specs.Words.{is_some, length, list_any, name_said, nat_lt, slice_split, take, unwrap_or}
 use Rattle.quote_plan.specs.{Cutting.is_feed, PlanLines.is_runtime_text, PlanLines.price_said, PlanReading.lines_of, PlanReading.modes_in, PlanReading.offers_in, Plans.Named}
 

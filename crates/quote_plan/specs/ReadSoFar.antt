@@ -1,5 +1,6 @@
 -- What was read so far of a plan.
-use Rattle.quote_plan.specs.Words.{◌++◌, Bool, List, Mode, PlanLine, option_to_list}
+use Rattle.std.specs.Prelude.{◌++◌}
+use Rattle.quote_plan.specs.Words.{Bool, List, Mode, PlanLine, option_to_list}
 use Rattle.quote_plan.specs.{PlanReading.may_follow, PlanReading.mode_in, PlanReading.offer_in, Plans.Named}
 
 -- the modes and the offers of the lines so far

@@ -1,6 +1,7 @@
 //! The answer that the ends of a plan's jobs make.
 
-ghost use Rattle.quote_plan.specs.{[], ◌≡◌, AllowedBest, AllowedFor, Answer, Answers, AreDue, AreDueSoFar, AreDueValues, Cancelled, Err, IfOk, IsCancelled, IsLost, IsLostOrMemory, IsNoAnswer, IsSome};
+ghost use Rattle.std.specs.Prelude.{◌≡◌};
+ghost use Rattle.quote_plan.specs.{[], AllowedBest, AllowedFor, Answer, Answers, AreDue, AreDueSoFar, AreDueValues, Cancelled, Err, IfOk, IsCancelled, IsLost, IsLostOrMemory, IsNoAnswer, IsSome};
 ghost use Rattle.quote_plan.specs.{MatchResult, NoneSucceeds, Some, available, failed_answer, first_answer, offer_of, quotes_in};
 
 use crate::answers::{Answer, Quote};

@@ -1,6 +1,7 @@
 //! What the gateway answers, and the line that says it.
 
-ghost use Rattle.quote_plan.specs.{◌≡◌, IfOk, Some, answer_text, quotes_text, string_bytes};
+ghost use Rattle.std.specs.Prelude.{◌≡◌};
+ghost use Rattle.quote_plan.specs.{IfOk, Some, answer_text, quotes_text, string_bytes};
 
 use scope_rules::{Fault, Name};
 use std::alloc::{AllocError, Global};

@@ -1,6 +1,7 @@
 //! A line that is begun, as far as it tells what the whole line says.
 
-ghost use Rattle.quote_plan.specs.{ℕ, ◌++◌, ◌≡◌, List, OnOk, StandsFor, with_byte};
+ghost use Rattle.std.specs.Prelude.{◌++◌, ◌≡◌};
+ghost use Rattle.quote_plan.specs.{ℕ, List, OnOk, StandsFor, with_byte};
 
 use script_words::LINE_LIMIT;
 use std::alloc::AllocError;

@@ -1,6 +1,7 @@
 //! The prices of a plan.
 
-ghost use Rattle.quote_plan.specs.{[], ◌++◌, ◌∷◌, ◌≡◌, IfOk, IsBest, IsBestOf, List, available, option_and_then, quote_in, quote_there, quotes_in, slice_get};
+ghost use Rattle.std.specs.Prelude.{◌++◌, ◌∷◌, ◌≡◌};
+ghost use Rattle.quote_plan.specs.{[], IfOk, IsBest, IsBestOf, List, available, option_and_then, quote_in, quote_there, quotes_in, slice_get};
 
 use crate::answers::{Quote, Quotes};
 use crate::ends::is_unavailable;

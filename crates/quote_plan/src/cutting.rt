@@ -1,6 +1,7 @@
 //! Where a line ends.
 
-ghost use Rattle.quote_plan.specs.{[], ◌<◌, ◌∷◌, ◌≡◌, CutsLine, HasNoFeed, IfSome, MatchOption, is_feed, length, position, slice_split};
+ghost use Rattle.std.specs.Prelude.{◌<◌, ◌∷◌, ◌≡◌};
+ghost use Rattle.quote_plan.specs.{[], CutsLine, HasNoFeed, IfSome, MatchOption, is_feed, length, position, slice_split};
 
 /// The first line that a line feed ends in the bytes, and what comes after it; `None` where none ends.
 #[tactic(auto, using(crate::proofs::Cuts::uncut))]

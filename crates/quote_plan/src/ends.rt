@@ -1,6 +1,7 @@
 //! Whether tasks ended as their offers say.
 
-ghost use Rattle.quote_plan.specs.{◌==◌, ◌↔◌, ◌≡◌, ◌⊎◌, AreDue, AreDueSoFar, AreDueValues, IsTrue, Some, Unavailable, dues_of, offer_of, position, slice_get, state_due};
+ghost use Rattle.std.specs.Prelude.{◌==◌, ◌↔◌, ◌≡◌, ◌⊎◌};
+ghost use Rattle.quote_plan.specs.{AreDue, AreDueSoFar, AreDueValues, IsTrue, Some, Unavailable, dues_of, offer_of, position, slice_get, state_due};
 
 use crate::plans::{Offer, Plan};
 use scope_rules::{Name, State, TaskId, TaskState, TaskValue, Value};

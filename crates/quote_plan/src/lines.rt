@@ -1,6 +1,7 @@
 //! What one line of a plan says.
 
-ghost use Rattle.quote_plan.specs.{◌≡◌, failing_said, fault_said, fields, fields_said, is_runtime_text, line_said, mode_line_said, mode_said, offer_said, price_said, priced_said, words_said};
+ghost use Rattle.std.specs.Prelude.{◌≡◌};
+ghost use Rattle.quote_plan.specs.{failing_said, fault_said, fields, fields_said, is_runtime_text, line_said, mode_line_said, mode_said, offer_said, price_said, priced_said, words_said};
 
 use crate::plans::{Mode, Offer};
 use scope_rules::{Fault, Name, is_runtime_fault};

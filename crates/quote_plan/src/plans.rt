@@ -1,6 +1,7 @@
 //! What a plan is.
 
-ghost use Rattle.quote_plan.specs.{◌↔◌, ◌≡◌, IsTrue, Some, end_of, label_of, labels_of, length, policy_of, slice_get};
+ghost use Rattle.std.specs.Prelude.{◌↔◌, ◌≡◌};
+ghost use Rattle.quote_plan.specs.{IsTrue, Some, end_of, label_of, labels_of, length, policy_of, slice_get};
 
 use indexmap::IndexMap;
 use scope_rules::{End, Fault, Label, Name, Policy, Value};

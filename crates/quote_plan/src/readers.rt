@@ -1,6 +1,7 @@
 //! A plan that comes piece by piece.
 
-ghost use Rattle.quote_plan.specs.{[], ℕ, ◌++◌, ◌∷◌, ◌≡◌, HasNoFeed, HasTaken, IfErr, List, MatchResult, NamesLine, OnOk, Passed, SayPlan, StandsFor, lines_of};
+ghost use Rattle.std.specs.Prelude.{◌++◌, ◌∷◌, ◌≡◌};
+ghost use Rattle.quote_plan.specs.{[], ℕ, HasNoFeed, HasTaken, IfErr, List, MatchResult, NamesLine, OnOk, Passed, SayPlan, StandsFor, lines_of};
 
 use crate::begun::go_on;
 use crate::cutting::first_line;

@@ -1,6 +1,7 @@
 //! How a plan is read.
 
-ghost use Rattle.quote_plan.specs.{[], ◌++◌, ◌∷◌, ◌≡◌, CauseIn, FaultIn, IfErr, IfOk, IsSome, IsTrue, MatchOption, MatchResult, Ok, OnErr, OnOk, PlanLine, SayPlan, false, is_named, lines_of};
+ghost use Rattle.std.specs.Prelude.{◌++◌, ◌∷◌, ◌≡◌};
+ghost use Rattle.quote_plan.specs.{[], CauseIn, FaultIn, IfErr, IfOk, IsSome, IsTrue, MatchOption, MatchResult, Ok, OnErr, OnOk, PlanLine, SayPlan, false, is_named, lines_of};
 ghost use Rattle.quote_plan.specs.{may_come, offer_in, true, why_of, with_line};
 
 use crate::cutting::first_line;

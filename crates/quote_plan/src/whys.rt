@@ -1,6 +1,7 @@
 //! Why a line of a plan is a bad one.
 
-ghost use Rattle.quote_plan.specs.{◌≡◌, ◌≤◌, fields, is_none, is_some, length, offer_said, why_of_bytes, why_of_end, why_of_fault, why_of_fields, why_of_offer, why_of_price, words_of};
+ghost use Rattle.std.specs.Prelude.{◌≡◌, ◌≤◌};
+ghost use Rattle.quote_plan.specs.{fields, is_none, is_some, length, offer_said, why_of_bytes, why_of_end, why_of_fault, why_of_fields, why_of_offer, why_of_price, words_of};
 
 use crate::lines::{is_made_by_runtime, price};
 use scope_rules::Fault;

@@ -1,5 +1,6 @@
 -- An ASCII character is one byte of text.
-use Rattle.refusal_reasons.specs.{[], ℕ, ◌<◌, ◌∷◌, ◌≡◌, encode_utf8}
+use Rattle.std.specs.Prelude.{◌<◌, ◌∷◌, ◌≡◌}
+use Rattle.refusal_reasons.specs.{[], ℕ, encode_utf8}
 use Rattle.refusal_reasons.proofs.Lemmas.{encode_ascii}
 
 pub encoded_alone : (c : ℕ) → c < 128 → encode_utf8 c ≡ c ∷ []

@@ -1,5 +1,6 @@
 -- A form calls its fields what its command takes them for.
-use Rattle.refusal_reasons.specs.{[], ℕ, ◌>>=◌, ◌∷◌, ◌≡◌, AreCalled, Bool, Command, FieldKind, IsCalled, Keyword, List, None, OneNumber, Option, Some, TwoNumbers, actor_of, bind_said, fail_said}
+use Rattle.std.specs.Prelude.{◌∷◌, ◌≡◌}
+use Rattle.refusal_reasons.specs.{[], ℕ, ◌>>=◌, AreCalled, Bool, Command, FieldKind, IsCalled, Keyword, List, None, OneNumber, Option, Some, TwoNumbers, actor_of, bind_said, fail_said}
 use Rattle.refusal_reasons.specs.{false, fork_said, form_said, get_said, just_one, just_three, just_two, kinds, moment_said, move_said, name_said, new_deadline_said, number_alone, ok_said}
 use Rattle.refusal_reasons.specs.{one_number_said, open_said, opened, option_map, shape_of, small_said, tick_said, true, two_numbers, two_numbers_said, value_said}
 use Rattle.refusal_reasons.proofs.Lemmas.{◌∙◌, ap, cond, refl, subst, sym}

@@ -1,8 +1,9 @@
 -- Which closes cover a scope that is not closed: its own, and those of the unclosed scopes around it by the same owner.
-use Rattle.refusal_reasons.specs.{ℕ, ◌&&◌, ◌+◌, ◌-◌, ◌<◌, ◌==◌, ◌||◌, ◌≡◌, ◌≤◌, BeginClose, Bool, Event, History, IfSome, Legal, Limits, None, Opening, Option, Some, Tick, before, begin_mark}
+use Rattle.std.specs.Prelude.{◌&&◌, ◌+◌, ◌-◌, ◌<◌, ◌==◌, ◌||◌, ◌≡◌, ◌≤◌, ◌⊎◌}
+use Rattle.refusal_reasons.specs.{ℕ, BeginClose, Bool, Event, History, IfSome, Legal, Limits, None, Opening, Option, Some, Tick, before, begin_mark}
 use Rattle.refusal_reasons.specs.{begins_closing, begun_place, closed, closing_at, closing_place, covers, earlier, earliest, false, have_one_opener, if_after, inner, length, marks, min, nat_lt}
 use Rattle.refusal_reasons.specs.{next_unclosed, not, opened_count, opening, option_and_then, option_map_or, outermost, slice_get, true, unclosed_after, unclosed_of}
-use Rattle.refusal_reasons.proofs.Lemmas.{◌∙◌, ◌⊎◌, BeginRow, HasUnclosed, IsOpened, and_then_some, ap, arith, before_of_before, begin_close_passed, both_ways, cases_lt, cases_order, cond}
+use Rattle.refusal_reasons.proofs.Lemmas.{◌∙◌, BeginRow, HasUnclosed, IsOpened, and_then_some, ap, arith, before_of_before, begin_close_passed, both_ways, cases_lt, cases_order, cond}
 use Rattle.refusal_reasons.proofs.Lemmas.{earliest_found, earliest_kept, earliest_where, eq-eqb, eqb-true, if_some, inl, inr, lacks_begin, legal_before, length-take, live_is_unclosed, lt-ltb}
 use Rattle.refusal_reasons.proofs.Lemmas.{ltb-true, opened_after, opened_first, opening_before, opening_since, opening_within, position-Some, refl, same_Some, slice_get_cases, slice_get_within, subst}
 use Rattle.refusal_reasons.proofs.Lemmas.{sym, unclosed_around, unclosed_before}

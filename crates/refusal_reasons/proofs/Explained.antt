@@ -1,5 +1,6 @@
 -- What a reason says is so, and what passed before the check failed that it explains.
-use Rattle.refusal_reasons.specs.{ℕ, ◌≡◌, ActorObstacle, Bool, Err, Event, EventsAreTrue, Explained, Failed, History, IfErr, IsSo, Limits, Name, Ok, Presupposed, QueriesAreTrue, Query, Reason}
+use Rattle.std.specs.Prelude.{◌≡◌}
+use Rattle.refusal_reasons.specs.{ℕ, ActorObstacle, Bool, Err, Event, EventsAreTrue, Explained, Failed, History, IfErr, IsSo, Limits, Name, Ok, Presupposed, QueriesAreTrue, Query, Reason}
 use Rattle.refusal_reasons.specs.{RetirementsAreTrue, State, TaskObstacle, Tried, answering, asker, bindings, bound_to, checks, event_reason, explained, false, is_some, known_actor, known_scope}
 use Rattle.refusal_reasons.specs.{known_task, not, query_reason, reading_reason, reading_row, reason_of, refuse_if, retire_reason, retire_row, row_check, scope_of, shows_fault, shows_value, stage}
 use Rattle.refusal_reasons.specs.{state, task_check, then_check, true, until_row, weight}

@@ -1,5 +1,6 @@
 -- A line has a fault just where it is a bad word.
-use Rattle.refusal_reasons.specs.{[], ℕ, ◌+◌, ◌>>=◌, ◌∷◌, ◌≡◌, Bool, Command, FieldKind, Keyword, LINE_LIMIT, Line, List, None, OneNumber, Option, Shape, Some, TwoNumbers, WordFault, begins_comment}
+use Rattle.std.specs.Prelude.{◌+◌, ◌∷◌, ◌≡◌}
+use Rattle.refusal_reasons.specs.{[], ℕ, ◌>>=◌, Bool, Command, FieldKind, Keyword, LINE_LIMIT, Line, List, None, OneNumber, Option, Shape, Some, TwoNumbers, WordFault, begins_comment}
 use Rattle.refusal_reasons.specs.{bind_said, command_said, fail_said, false, fault_of, fields, fields_fault, fields_said, fork_said, form_fault, form_said, get_said, is_bad, is_empty, is_kind}
 use Rattle.refusal_reasons.specs.{is_some, just_one, just_three, just_two, keyword_said, left_over, length, line_of, line_said, misfit, moment_said, move_said, name_said, nat_lt, new_deadline_said}
 use Rattle.refusal_reasons.specs.{not, number_alone, ok_said, one_number_said, open_fault, open_said, opened, option_map, options_taken, shape_fault, shape_of, small_said, stray_fault, tick_said}

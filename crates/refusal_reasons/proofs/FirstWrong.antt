@@ -1,5 +1,6 @@
 -- A fault names the first field that is wrong.
-use Rattle.refusal_reasons.specs.{[], ℕ, ◌++◌, ◌+◌, ◌∷◌, ◌≡◌, AreOf, AwaitOk, Bool, FieldKind, LINE_LIMIT, List, Names, NamesField, NamesFirst, NamesIn, None, Option, Shape, Some, WordFault}
+use Rattle.std.specs.Prelude.{◌++◌, ◌+◌, ◌∷◌, ◌≡◌}
+use Rattle.refusal_reasons.specs.{[], ℕ, AreOf, AwaitOk, Bool, FieldKind, LINE_LIMIT, List, Names, NamesField, NamesFirst, NamesIn, None, Option, Shape, Some, WordFault}
 use Rattle.refusal_reasons.specs.{begins_comment, bytes_eq, codes, count_next, count_of, deadline_next, deadline_said, false, fault_of, fields, fields_fault, flag_next, flag_said, form_fault}
 use Rattle.refusal_reasons.specs.{found_or, is_due, is_flag, is_joiner, is_kind, is_some, keyword_said, kinds, left_over, length, misfit, nat_lt, next_said, open_fault, option_map, options_taken}
 use Rattle.refusal_reasons.specs.{policy_next, policy_said, shape_fault, shape_of, stray_fault, true}

@@ -1,5 +1,6 @@
 -- A command has a reason just if it is refused, and the reason is of that refusal.
-use Rattle.refusal_reasons.specs.{ℕ, ◌≡◌, ActorObstacle, Bool, Checked, Err, EventsFit, Explained, Failed, History, Limits, Name, None, Ok, Option, QueriesFit, Query, Reason, Refusal, Result}
+use Rattle.std.specs.Prelude.{◌≡◌}
+use Rattle.refusal_reasons.specs.{ℕ, ActorObstacle, Bool, Checked, Err, EventsFit, Explained, Failed, History, Limits, Name, None, Ok, Option, QueriesFit, Query, Reason, Refusal, Result}
 use Rattle.refusal_reasons.specs.{RetirementsFit, RoomObstacle, Some, State, Tried, Value, binding_reply, bindings, bound_to, checked_then, closed, event_reason, explained, false, fault_reply}
 use Rattle.refusal_reasons.specs.{fault_shown, forked_count, innermost, is_some, nat_le, not, opened_count, option_map_or, pending_task, query_check, query_reason, reading_check, reading_reason}
 use Rattle.refusal_reasons.specs.{reason_of, reason_refusal, refusal_of, refuse_if, refused_alone, refusing, remade, result_reply, retire_check, retire_reason, room_refusal, shows_fault, shows_value}

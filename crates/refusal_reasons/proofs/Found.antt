@@ -1,5 +1,6 @@
 -- A search finds something just if a test says that there is something.
-use Rattle.refusal_reasons.specs.{[], ℕ, ◌&&◌, ◌+◌, ◌||◌, ◌∷◌, ◌≡◌, Bool, History, List, None, Option, Some, closed, closed_place, closing, closing_at, closing_place, earliest, ends, false, filter}
+use Rattle.std.specs.Prelude.{◌&&◌, ◌+◌, ◌||◌, ◌∷◌, ◌≡◌}
+use Rattle.refusal_reasons.specs.{[], ℕ, Bool, History, List, None, Option, Some, closed, closed_place, closing, closing_at, closing_place, earliest, ends, false, filter}
 use Rattle.refusal_reasons.specs.{find, first_place, innermost, is_pending, is_some, is_task_of, joined, joined_place, joins, length, list_any, nat_lt, not, option_or, pending_task, place_if}
 use Rattle.refusal_reasons.specs.{position, position_or_len, settled, some_below, suc, task_numbers, tasks_of, true, zero}
 use Rattle.refusal_reasons.proofs.Lemmas.{◌∙◌, ap, arith, cond, innermost_unclosed, lt-ltb, nat_tests, refl, sym}

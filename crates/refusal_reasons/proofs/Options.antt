@@ -1,5 +1,6 @@
 -- What is left of an open's words after one of its options.
-use Rattle.refusal_reasons.specs.{[], ℕ, ◌∷◌, ◌≡◌, AwaitOk, Bool, List, None, Option, Some, bytes_eq, count_next, count_of, deadline_next, deadline_said, false, first_and_rest, flag_next, flag_said}
+use Rattle.std.specs.Prelude.{◌∷◌, ◌≡◌}
+use Rattle.refusal_reasons.specs.{[], ℕ, AwaitOk, Bool, List, None, Option, Some, bytes_eq, count_next, count_of, deadline_next, deadline_said, false, first_and_rest, flag_next, flag_said}
 use Rattle.refusal_reasons.specs.{found_or, is_some, next_said, option_map, policy_next, policy_said, true}
 use Rattle.refusal_reasons.proofs.Lemmas.{◌∙◌, ap, cond, refl, some_pair_parts, sym}
 

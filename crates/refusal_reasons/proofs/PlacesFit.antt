@@ -1,5 +1,6 @@
 -- A field stands where it is said to.
-use Rattle.refusal_reasons.specs.{[], ℕ, ◌++◌, ◌+◌, ◌-◌, ◌∷◌, ◌≡◌, Bool, List, None, Some, behind_first, drop, false, field_at, field_place, fields, first_and_rest, is_space, length, position_or_len}
+use Rattle.std.specs.Prelude.{◌++◌, ◌+◌, ◌-◌, ◌∷◌, ◌≡◌}
+use Rattle.refusal_reasons.specs.{[], ℕ, Bool, List, None, Some, behind_first, drop, false, field_at, field_place, fields, first_and_rest, is_space, length, position_or_len}
 use Rattle.refusal_reasons.specs.{suc, take, text_from, true, without_spaces, zero}
 use Rattle.refusal_reasons.proofs.Lemmas.{◌∙◌, ap, append_assoc, arith, cond, drop-append_seam, length-append, next_none, next_some, refl, some_pair_parts, subst, sym, take-append-drop}
 

@@ -1,5 +1,6 @@
 -- What searches find.
-use Rattle.refusal_reasons.specs.{[], ℕ, ◌++◌, ◌+◌, ◌<◌, ◌||◌, ◌∷◌, ◌≡◌, ◌≤◌, Bool, History, List, None, Some, earliest, false, find, first_place, forked_count, is_task_of, length, list_any, place_if}
+use Rattle.std.specs.Prelude.{◌++◌, ◌+◌, ◌<◌, ◌||◌, ◌∷◌, ◌≡◌, ◌≤◌}
+use Rattle.refusal_reasons.specs.{[], ℕ, Bool, History, List, None, Some, earliest, false, find, first_place, forked_count, is_task_of, length, list_any, place_if}
 use Rattle.refusal_reasons.specs.{position, position_from, slice_get, suc, take, task_numbers, tasks, tasks_of, true, zero}
 use Rattle.refusal_reasons.proofs.Lemmas.{◌∙◌, ap, arith, cond, count_by-le-length, earliest_found, false_from_ne_true, length-filter, length-range_with_len, position_from-zero, refl, sym, take_at}
 use Rattle.refusal_reasons.proofs.Lemmas.{take_whole}

@@ -1,5 +1,6 @@
 -- What is said of a check that fails is so of the history, check by check and row by row.
-use Rattle.refusal_reasons.specs.{[], ℕ, ◌&&◌, ◌+◌, ◌<◌, ◌==◌, ◌||◌, ◌∷◌, ◌≡◌, BeginClose, BeginsClose, Bind, Bool, Cancel, EndClose, Err, Event, FORK_LOAD, Failed, Finish, Fork, Forking}
+use Rattle.std.specs.Prelude.{◌&&◌, ◌+◌, ◌<◌, ◌==◌, ◌||◌, ◌∷◌, ◌≡◌}
+use Rattle.refusal_reasons.specs.{[], ℕ, BeginClose, BeginsClose, Bind, Bool, Cancel, EndClose, Err, Event, FORK_LOAD, Failed, Finish, Fork, Forking}
 use Rattle.refusal_reasons.specs.{GREATEST_NUMBER, History, IfSome, IsEvent, IsFirstPending, IsForkedIn, IsSo, Join, LEVEL_LIMIT, Limits, List, Move, None, OPEN_LOAD, Ok, Open, Opening, Option}
 use Rattle.refusal_reasons.specs.{Presupposed, Reason, Reject, RoomObstacle, STEP_LOAD, ScopeObstacle, Some, Stage, Start, Tick, Tried, Unbind, asker, before, begins_closing, bound_as_opened, checks}
 use Rattle.refusal_reasons.specs.{closed, closed_place, closed_reason, closing, closing_at, closing_place, ends, event_at, false, find, first_place, forked_count, forking, holds_last, in_closing}

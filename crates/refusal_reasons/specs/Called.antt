@@ -1,5 +1,6 @@
 -- That a form calls its fields what its command takes them for.
-use Rattle.refusal_reasons.specs.Words.{[], ℕ, ◌∷◌, ◌≡◌, Command, Event, FieldKind, Keyword, List, None, Option, Query, Some, form_said, small_said}
+use Rattle.std.specs.Prelude.{◌∷◌, ◌≡◌}
+use Rattle.refusal_reasons.specs.Words.{[], ℕ, Command, Event, FieldKind, Keyword, List, None, Option, Query, Some, form_said, small_said}
 use Rattle.refusal_reasons.specs.Shapes.{kinds, shape_of}
 
 -- who acts, if the event says so

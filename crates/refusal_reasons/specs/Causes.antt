@@ -1,5 +1,6 @@
 -- Why a word is not what it is to be.
-use Rattle.refusal_reasons.specs.Words.{[], ℕ, ◌&&◌, ◌==◌, ◌||◌, ◌∷◌, Alien, Bool, Cause, FieldKind, List, None, Option, Some, after, false, if◌then◌else◌, is_ascii_digit, is_inner, is_letter}
+use Rattle.std.specs.Prelude.{◌&&◌, ◌==◌, ◌||◌, ◌∷◌, if◌then◌else◌}
+use Rattle.refusal_reasons.specs.Words.{[], ℕ, Alien, Bool, Cause, FieldKind, List, None, Option, Some, after, false, is_ascii_digit, is_inner, is_letter}
 use Rattle.refusal_reasons.specs.Words.{is_some, length, list_any, not}
 
 -- ---- bytes that no script has

@@ -1,5 +1,6 @@
 -- That a line has a fault just where it is no command.
-use Rattle.refusal_reasons.specs.Words.{ℕ, ◌≡◌, BadWord, Bool, Line, List, Silent, false, is_some, line_said, true}
+use Rattle.std.specs.Prelude.{◌≡◌}
+use Rattle.refusal_reasons.specs.Words.{ℕ, BadWord, Bool, Line, List, Silent, false, is_some, line_said, true}
 use Rattle.script_words.specs.declared.commands.Line.TheVariants.{Command}
 use Rattle.refusal_reasons.specs.Faults.{fault_of}
 

@@ -1,6 +1,7 @@
 -- The sentence of each fault of a line.
-use Rattle.refusal_reasons.specs.Words.{[], ℕ, ◌++◌, ◌||◌, ◌∷◌, Alien, Bool, COMMANDS, Cause, FieldKind, LINE_LIMIT, List, None, OPTIONS, Option, Shape, Some, WordFault, after, bytes_eq, codes}
-use Rattle.refusal_reasons.specs.Words.{deadline_said, decimal, fields, if◌then◌else◌, is_some, map, nat_lt, policy_said, suc, zero}
+use Rattle.std.specs.Prelude.{if◌then◌else◌, ◌++◌, ◌||◌, ◌∷◌}
+use Rattle.refusal_reasons.specs.Words.{[], ℕ, Alien, Bool, COMMANDS, Cause, FieldKind, LINE_LIMIT, List, None, OPTIONS, Option, Shape, Some, WordFault, after, bytes_eq, codes}
+use Rattle.refusal_reasons.specs.Words.{deadline_said, decimal, fields, is_some, map, nat_lt, policy_said, suc, zero}
 use Rattle.refusal_reasons.specs.{Causes.alien_in, Causes.cause_of, Guesses.nearest, Shown.shown_alone, Shown.shown_text}
 
 -- the field at the index; no bytes if there is none

@@ -1,6 +1,7 @@
 -- Why a line is no command: the first of its fields that its form does not have there.
-use Rattle.refusal_reasons.specs.Words.{[], ℕ, ◌+◌, ◌∷◌, Bool, FieldKind, LINE_LIMIT, List, None, Option, Shape, Some, WordFault, begins_comment, bytes_eq, codes, deadline_next, deadline_said, fields}
-use Rattle.refusal_reasons.specs.Words.{flag_next, if◌then◌else◌, is_some, keyword_said, length, moment_said, name_said, nat_lt, new_deadline_said, option_map, policy_next, policy_said, small_said}
+use Rattle.std.specs.Prelude.{if◌then◌else◌, ◌+◌, ◌∷◌}
+use Rattle.refusal_reasons.specs.Words.{[], ℕ, Bool, FieldKind, LINE_LIMIT, List, None, Option, Shape, Some, WordFault, begins_comment, bytes_eq, codes, deadline_next, deadline_said, fields}
+use Rattle.refusal_reasons.specs.Words.{flag_next, is_some, keyword_said, length, moment_said, name_said, nat_lt, new_deadline_said, option_map, policy_next, policy_said, small_said}
 use Rattle.refusal_reasons.specs.Words.{value_said}
 use Rattle.refusal_reasons.specs.Shapes.{kinds, shape_of}
 

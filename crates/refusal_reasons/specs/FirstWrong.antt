@@ -1,5 +1,6 @@
 -- That a fault names the first field of its line that is wrong.
-use Rattle.refusal_reasons.specs.Words.{[], ℕ, ◌++◌, ◌+◌, ◌<◌, ◌∷◌, ◌≡◌, FieldKind, LINE_LIMIT, List, None, Option, Shape, Some, WordFault, false, fields, keyword_said, length, option_map, true}
+use Rattle.std.specs.Prelude.{◌++◌, ◌+◌, ◌<◌, ◌∷◌, ◌≡◌}
+use Rattle.refusal_reasons.specs.Words.{[], ℕ, FieldKind, LINE_LIMIT, List, None, Option, Shape, Some, WordFault, false, fields, keyword_said, length, option_map, true}
 use Rattle.refusal_reasons.specs.{Faults.fault_of, Faults.is_kind, Faults.left_over, Shapes.kinds, Shapes.shape_of}
 
 -- the words are of these kinds, one each

@@ -1,5 +1,6 @@
 -- Which refusal a reason is of, and that the reasons are those of the refusals.
-use Rattle.refusal_reasons.specs.Words.{ℕ, ◌≡◌, ActorObstacle, Checked, Err, Event, History, Limits, Ok, Query, Reason, Refusal, Result, RoomObstacle, ScopeObstacle, TaskObstacle, binding_reply}
+use Rattle.std.specs.Prelude.{◌≡◌}
+use Rattle.refusal_reasons.specs.Words.{ℕ, ActorObstacle, Checked, Err, Event, History, Limits, Ok, Query, Reason, Refusal, Result, RoomObstacle, ScopeObstacle, TaskObstacle, binding_reply}
 use Rattle.refusal_reasons.specs.Words.{check_of, fault_reply, result_reply, retire_check, scope_check, task_check, until_check}
 use Rattle.refusal_reasons.specs.Reasons.{Explained, event_reason, query_reason, retire_reason}
 

@@ -1,5 +1,6 @@
 -- Which word is meant by one that differs from it by an edit, or by capitals.
-use Rattle.refusal_reasons.specs.Words.{[], ℕ, ◌&&◌, ◌+◌, ◌==◌, ◌||◌, ◌∷◌, Bool, List, None, Option, Some, false, if◌then◌else◌, is_near, length, nat_le}
+use Rattle.std.specs.Prelude.{◌&&◌, ◌+◌, ◌==◌, ◌||◌, ◌∷◌, if◌then◌else◌}
+use Rattle.refusal_reasons.specs.Words.{[], ℕ, Bool, List, None, Option, Some, false, is_near, length, nat_le}
 
 -- the second byte is the first, or its small letter
 abbrev pub is_lower_of : ℕ → ℕ → Bool

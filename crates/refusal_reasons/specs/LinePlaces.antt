@@ -1,5 +1,6 @@
 -- Where a field stands in its line.
-use Rattle.refusal_reasons.specs.Words.{ℕ, ◌++◌, ◌+◌, ◌-◌, ◌≡◌, LINE_LIMIT, List, Place, WordFault, codes, drop, fields, is_space, length, max, position_or_len, replicate, suc, take, without_spaces}
+use Rattle.std.specs.Prelude.{◌++◌, ◌+◌, ◌-◌, ◌≡◌}
+use Rattle.refusal_reasons.specs.Words.{ℕ, LINE_LIMIT, List, Place, WordFault, codes, drop, fields, is_space, length, max, position_or_len, replicate, suc, take, without_spaces}
 use Rattle.refusal_reasons.specs.Words.{zero}
 use Rattle.refusal_reasons.specs.{FaultSentences.field_at, Shown.all_shown}
 

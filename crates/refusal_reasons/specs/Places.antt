@@ -1,5 +1,6 @@
 -- By which event a scope came to stand as it does. Places are counted from 0 since the base, events from 1.
-use Rattle.refusal_reasons.specs.Words.{ℕ, Bool, Event, History, List, None, Option, Some, begin_mark, closing_at, earliest, ends, find, if◌then◌else◌, is_settled, joins, length, marks, min, nat_lt}
+use Rattle.std.specs.Prelude.{if◌then◌else◌}
+use Rattle.refusal_reasons.specs.Words.{ℕ, Bool, Event, History, List, None, Option, Some, begin_mark, closing_at, earliest, ends, find, is_settled, joins, length, marks, min, nat_lt}
 use Rattle.refusal_reasons.specs.Words.{not, position, stage, tasks_of}
 
 -- the place, if the test holds of it

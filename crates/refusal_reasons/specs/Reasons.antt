@@ -1,6 +1,7 @@
 -- Why a command is refused: what is said of the check of its row that failed.
-use Rattle.refusal_reasons.specs.Words.{ℕ, ◌+◌, ◌≡◌, ActorObstacle, Err, Event, Failed, History, Limits, Name, Never, Ok, Option, Query, Reason, RoomObstacle, Running, ScopeObstacle, State}
-use Rattle.refusal_reasons.specs.Words.{TaskObstacle, Tried, Waiting, actor_check, bindings, bound_to, checks, closed, forked_count, forking, if◌then◌else◌, innermost, is_some, known_actor}
+use Rattle.std.specs.Prelude.{if◌then◌else◌, ◌+◌, ◌≡◌}
+use Rattle.refusal_reasons.specs.Words.{ℕ, ActorObstacle, Err, Event, Failed, History, Limits, Name, Never, Ok, Option, Query, Reason, RoomObstacle, Running, ScopeObstacle, State}
+use Rattle.refusal_reasons.specs.Words.{TaskObstacle, Tried, Waiting, actor_check, bindings, bound_to, checks, closed, forked_count, forking, innermost, is_some, known_actor}
 use Rattle.refusal_reasons.specs.Words.{known_scope, known_task, length, load, moment, nat_le, next_level, not, opened_count, opening, option_map_or, reading_row, refuse_if, remade, retire_row}
 use Rattle.refusal_reasons.specs.Words.{row_check, scope_check, scopes, stack, stage, state, tasks, then_check, until_row}
 use Rattle.refusal_reasons.specs.Places.{closed_place, closing_place, joined_place, pending_task}

@@ -1,6 +1,7 @@
 -- The sentence of each reason.
-use Rattle.refusal_reasons.specs.Words.{ℕ, ◌++◌, ◌-◌, ◌==◌, ActorObstacle, Finished, List, Never, None, Option, Reason, RoomObstacle, ScopeObstacle, Some, Stage, TaskObstacle, codes, decimal}
-use Rattle.refusal_reasons.specs.Words.{fault_text, if◌then◌else◌, slice_get, stage_word, suc, text_of, unwrap_or, value_text, zero}
+use Rattle.std.specs.Prelude.{if◌then◌else◌, ◌++◌, ◌-◌, ◌==◌}
+use Rattle.refusal_reasons.specs.Words.{ℕ, ActorObstacle, Finished, List, Never, None, Option, Reason, RoomObstacle, ScopeObstacle, Some, Stage, TaskObstacle, codes, decimal}
+use Rattle.refusal_reasons.specs.Words.{fault_text, slice_get, stage_word, suc, text_of, unwrap_or, value_text, zero}
 
 -- the number of the line whose command recorded an event, if the lines of all events are known in turn, and events
 -- are counted from 1

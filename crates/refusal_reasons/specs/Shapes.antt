@@ -1,5 +1,6 @@
 -- The shapes of forms: which fields stand behind the first word.
-use Rattle.refusal_reasons.specs.Words.{[], ◌∷◌, FieldKind, Keyword, List, OneNumber, Shape, TwoNumbers}
+use Rattle.std.specs.Prelude.{◌∷◌}
+use Rattle.refusal_reasons.specs.Words.{[], FieldKind, Keyword, List, OneNumber, Shape, TwoNumbers}
 
 -- the shape of the form with this keyword
 abbrev pub shape_of : Keyword → Shape

@@ -1,5 +1,6 @@
 -- Bytes of a script as they are shown.
-use Rattle.refusal_reasons.specs.Words.{[], ℕ, ◌&&◌, ◌++◌, ◌∷◌, List, SHOWN_LIMIT, codes, flat_map, if◌then◌else◌, length, nat_le, nat_lt, take}
+use Rattle.std.specs.Prelude.{◌&&◌, ◌++◌, ◌∷◌, if◌then◌else◌}
+use Rattle.refusal_reasons.specs.Words.{[], ℕ, List, SHOWN_LIMIT, codes, flat_map, length, nat_le, nat_lt, take}
 
 -- the byte, or `?` in place of one that is not from the space to `~`
 abbrev pub shown_byte : ℕ → ℕ

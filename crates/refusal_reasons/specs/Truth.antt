@@ -1,5 +1,6 @@
 -- That a reason tells the truth of a history, said by its events, openings and stages and not by the checks.
-use Rattle.refusal_reasons.specs.Words.{ℕ, ◌+◌, ◌<◌, ◌≡◌, ◌≤◌, ActorObstacle, BeginClose, Bind, Bool, EndClose, Err, Event, Finish, Fork, Forking, GREATEST_NUMBER, History, IfSome, Join, LEVEL_LIMIT}
+use Rattle.std.specs.Prelude.{◌+◌, ◌<◌, ◌≡◌, ◌≤◌}
+use Rattle.refusal_reasons.specs.Words.{ℕ, ActorObstacle, BeginClose, Bind, Bool, EndClose, Err, Event, Finish, Fork, Forking, GREATEST_NUMBER, History, IfSome, Join, LEVEL_LIMIT}
 use Rattle.refusal_reasons.specs.Words.{Limits, None, Open, Opening, Query, Reason, Reject, RoomObstacle, ScopeObstacle, Some, Start, State, TaskObstacle, Unbind, before, begins_closing, bindings}
 use Rattle.refusal_reasons.specs.Words.{bound_as_opened, bound_to, closed, closing, ends, false, forked_count, forking, holds_last, innermost, joined, joins, length, load, moment, next_level}
 use Rattle.refusal_reasons.specs.Words.{opened_count, opening, scopes, slice_get, stack, stage, state, tasks, tasks_of, true, weight}

@@ -1,5 +1,6 @@
 //! Why a word is not what it is to be.
-ghost use Rattle.refusal_reasons.specs.{◌≡◌, after, alien_in, cause_of, digits_cause, first_other, first_strange, has_byte, has_mark, inner_cause, is_inner, is_letter, is_some, is_zero, name_cause};
+ghost use Rattle.std.specs.Prelude.{◌≡◌};
+ghost use Rattle.refusal_reasons.specs.{after, alien_in, cause_of, digits_cause, first_other, first_strange, has_byte, has_mark, inner_cause, is_inner, is_letter, is_some, is_zero, name_cause};
 ghost use Rattle.refusal_reasons.specs.{number_cause, signed_cause, timed, value_cause, wide};
 
 use crate::shapes::FieldKind;

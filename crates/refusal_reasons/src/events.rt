@@ -1,6 +1,7 @@
 //! The events by which the scopes of a legal history were joined and closed, and how far their tasks have ended.
 
-ghost use Rattle.refusal_reasons.specs.{◌<◌, ◌≡◌, IfSome, Legal, Limits, None, begun_place, closed_place, find, is_pending, joined_place, length, take, tasks_of};
+ghost use Rattle.std.specs.Prelude.{◌<◌, ◌≡◌};
+ghost use Rattle.refusal_reasons.specs.{IfSome, Legal, Limits, None, begun_place, closed_place, find, is_pending, joined_place, length, take, tasks_of};
 
 use scope_rules::ScopeId;
 

@@ -1,6 +1,7 @@
 //! Why each command is refused: the check of its row that failed, and what is said of it.
 
-ghost use Rattle.refusal_reasons.specs.{◌≡◌, IfErr, OnOk, Passes, Presupposed, actor_check, event_reason, explained, query_reason, reading_reason, retire_reason, row_check, scope_of, sees};
+ghost use Rattle.std.specs.Prelude.{◌≡◌};
+ghost use Rattle.refusal_reasons.specs.{IfErr, OnOk, Passes, Presupposed, actor_check, event_reason, explained, query_reason, reading_reason, retire_reason, row_check, scope_of, sees};
 ghost use Rattle.refusal_reasons.specs.{shows_fault, shows_value, stage, state, task_check};
 
 use crate::events::Events;

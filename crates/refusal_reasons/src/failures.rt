@@ -1,6 +1,7 @@
 //! What is said of each check that can fail.
 
-ghost use Rattle.refusal_reasons.specs.{◌<◌, ◌≡◌, IfSome, Passes, Presupposed, actor_check, around_reason, closed_reason, closing_reason, event_at, joined_place, owner_of, pairs_of, pending_reason};
+ghost use Rattle.std.specs.Prelude.{◌<◌, ◌≡◌};
+ghost use Rattle.refusal_reasons.specs.{IfSome, Passes, Presupposed, actor_check, around_reason, closed_reason, closing_reason, event_at, joined_place, owner_of, pairs_of, pending_reason};
 ghost use Rattle.refusal_reasons.specs.{reason_of, scope_check, scope_of, stage, unclosed_reason};
 
 use crate::events::Events;

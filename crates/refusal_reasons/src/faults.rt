@@ -1,5 +1,6 @@
 //! Why a line is no command.
-ghost use Rattle.refusal_reasons.specs.{◌≡◌, Some, fault_of, fields, fields_fault, open_fault, shape_fault, stray_fault};
+ghost use Rattle.std.specs.Prelude.{◌≡◌};
+ghost use Rattle.refusal_reasons.specs.{Some, fault_of, fields, fields_fault, open_fault, shape_fault, stray_fault};
 
 use crate::fields::{left_over, misfit, options_taken};
 use crate::shapes::{FieldKind, Shape, kinds, shape_of_word};

@@ -1,5 +1,6 @@
 //! Fields that are looked at one after the other.
-ghost use Rattle.refusal_reasons.specs.{◌+◌, ◌≡◌, ◌≤◌, codes, count_next, count_of, deadline_next, field_at, fields, flag_next, is_due, is_flag, is_joiner, left_over, length, misfit, options_taken};
+ghost use Rattle.std.specs.Prelude.{◌+◌, ◌≡◌, ◌≤◌};
+ghost use Rattle.refusal_reasons.specs.{codes, count_next, count_of, deadline_next, field_at, fields, flag_next, is_due, is_flag, is_joiner, left_over, length, misfit, options_taken};
 ghost use Rattle.refusal_reasons.specs.{policy_next};
 
 use crate::faults::WordFault;

@@ -1,5 +1,6 @@
 //! Which word is meant by one that differs from it by an edit, or by capitals.
-ghost use Rattle.refusal_reasons.specs.{◌≡◌, is_lower_of, is_same_letters, map, nearest, option_map};
+ghost use Rattle.std.specs.Prelude.{◌≡◌};
+ghost use Rattle.refusal_reasons.specs.{is_lower_of, is_same_letters, map, nearest, option_map};
 
 use script_words::is_near;
 

@@ -1,5 +1,6 @@
 //! Where a fault is in its line.
-ghost use Rattle.refusal_reasons.specs.{◌+◌, ◌-◌, ◌≡◌, ◌≤◌, Some, behind_first, field_place, is_space, length, max, picture_text, place_of, position_or_len, replicate, suc, take, text_from};
+ghost use Rattle.std.specs.Prelude.{◌+◌, ◌-◌, ◌≡◌, ◌≤◌};
+ghost use Rattle.refusal_reasons.specs.{Some, behind_first, field_place, is_space, length, max, picture_text, place_of, position_or_len, replicate, suc, take, text_from};
 ghost use Rattle.refusal_reasons.specs.{without_spaces};
 
 use crate::faults::WordFault;

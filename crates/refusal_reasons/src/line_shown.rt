@@ -1,5 +1,6 @@
 //! Bytes of a script as they are shown.
-ghost use Rattle.refusal_reasons.specs.{◌<◌, ◌≡◌, Some, all_shown, more_text, shown_alone, shown_byte, shown_text, take};
+ghost use Rattle.std.specs.Prelude.{◌<◌, ◌≡◌};
+ghost use Rattle.refusal_reasons.specs.{Some, all_shown, more_text, shown_alone, shown_byte, shown_text, take};
 
 use std::fmt;
 

@@ -1,6 +1,7 @@
 //! By which event a scope came to be closing, and which task it waits for.
 
-ghost use Rattle.refusal_reasons.specs.{◌<◌, ◌≡◌, IfSome, Passes, begun_place, closed, closing_place, earlier, false, if_after, is_pending, length, pending_task, scope_check};
+ghost use Rattle.std.specs.Prelude.{◌<◌, ◌≡◌};
+ghost use Rattle.refusal_reasons.specs.{IfSome, Passes, begun_place, closed, closing_place, earlier, false, if_after, is_pending, length, pending_task, scope_check};
 
 use crate::events::Events;
 use scope_checks::Readings;

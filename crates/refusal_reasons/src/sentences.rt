@@ -1,5 +1,6 @@
 //! The sentences of faults.
-ghost use Rattle.refusal_reasons.specs.{◌≡◌, None, Some, after, alien_text, behind, cause_text, codes, extra_text, fields, form_text, guess_text, is_option, kind_text, later_field, line_fault_text};
+ghost use Rattle.std.specs.Prelude.{◌≡◌};
+ghost use Rattle.refusal_reasons.specs.{None, Some, after, alien_text, behind, cause_text, codes, extra_text, fields, form_text, guess_text, is_option, kind_text, later_field, line_fault_text};
 ghost use Rattle.refusal_reasons.specs.{misfit_text, option_map, other_text, shape_text, strange_text, stray_text, unknown_text, wanted_text, wrong_text};
 
 use crate::causes::{Alien, Cause, alien_in, cause_of};

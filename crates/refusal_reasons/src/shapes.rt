@@ -1,5 +1,6 @@
 //! The shapes of forms: which fields stand behind the first word.
-ghost use Rattle.refusal_reasons.specs.{◌≡◌, keyword_said, kinds, option_map, shape_of};
+ghost use Rattle.std.specs.Prelude.{◌≡◌};
+ghost use Rattle.refusal_reasons.specs.{keyword_said, kinds, option_map, shape_of};
 
 use script_words::{Keyword, OneNumber, TwoNumbers, keyword_of};
 

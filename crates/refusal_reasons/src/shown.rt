@@ -1,5 +1,6 @@
 //! The sentences of reasons.
-ghost use Rattle.refusal_reasons.specs.{◌≡◌, Some, actor_sentence, actor_text, decimal, innermost_text, room_sentence, scope_sentence, sentence, stage_text, task_sentence, unreadable_text};
+ghost use Rattle.std.specs.Prelude.{◌≡◌};
+ghost use Rattle.refusal_reasons.specs.{Some, actor_sentence, actor_text, decimal, innermost_text, room_sentence, scope_sentence, sentence, stage_text, task_sentence, unreadable_text};
 ghost use Rattle.refusal_reasons.specs.Sentences.{line_of};
 
 use crate::reasons::{ActorObstacle, Reason, RoomObstacle, ScopeObstacle, TaskObstacle};

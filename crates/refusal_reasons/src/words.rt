@@ -1,5 +1,6 @@
 //! What a field is, as the script reads it.
-ghost use Rattle.refusal_reasons.specs.{◌≡◌, is_kind};
+ghost use Rattle.std.specs.Prelude.{◌≡◌};
+ghost use Rattle.refusal_reasons.specs.{is_kind};
 
 use crate::shapes::FieldKind;
 use script_words::{moment, name, new_deadline, small, value};

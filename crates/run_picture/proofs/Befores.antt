@@ -1,5 +1,6 @@
 -- What was forked before a place, and how many scopes were opened there.
-use Rattle.run_picture.specs.{ℕ, ◌≡◌, ◌≤◌, Forking, History, None, Option, Some, before, forking, is_open, opened_count, option_map_or}
+use Rattle.std.specs.Prelude.{◌≡◌, ◌≤◌}
+use Rattle.run_picture.specs.{ℕ, Forking, History, None, Option, Some, before, forking, is_open, opened_count, option_map_or}
 use Rattle.run_picture.proofs.Lemmas.{◌∙◌, ap, arith, count_by-take-le, forking_since, forking_within, length-take, refl, sym}
 
 -- what was not forked at all, and what was forked at the place or behind it

@@ -1,9 +1,10 @@
 -- The marks of cancels.
-use Rattle.run_picture.specs.{ℕ, ◌&&◌, ◌+◌, ◌-◌, ◌<◌, ◌==◌, ◌≡◌, ◌≤◌, Blank, Bool, Cause, EachCancelHasOneMark, FirstCancel, History, None, Opening, Option, Sheet.Sheet, Some, Words.View, all}
-use Rattle.run_picture.specs.{cancel_drawn, cancel_figures, cancel_place, cancellation, cancelled_at, cause, cond, count_in, drawn_rows, false, first_cancel, forked_count, if◌then◌else◌, in_view}
+use Rattle.std.specs.Prelude.{if◌then◌else◌, ◌&&◌, ◌+◌, ◌-◌, ◌<◌, ◌==◌, ◌≡◌, ◌≢◌, ◌≤◌, ◌⊎◌}
+use Rattle.run_picture.specs.{ℕ, Blank, Bool, Cause, EachCancelHasOneMark, FirstCancel, History, None, Opening, Option, Sheet.Sheet, Some, Words.View, all}
+use Rattle.run_picture.specs.{cancel_drawn, cancel_figures, cancel_place, cancellation, cancelled_at, cause, cond, count_in, drawn_rows, false, first_cancel, forked_count, in_view}
 use Rattle.run_picture.specs.{indexes, is_cancel_of, is_cancelled, is_number, is_some, max, nat_le, nat_lt, no_number, no_subject, node_count, opened_count, opening, option_and_then, option_map}
 use Rattle.run_picture.specs.{option_map_or, row_at, row_of, scope_numbers, scope_row, scopes, shows, true, unwrap_or}
-use Rattle.run_picture.proofs.Lemmas.{◌∙◌, ◌≢◌, ◌⊎◌, ap, arith, cancel_opened, cases_eq, inl, inr, le-leb, le-ltb, leb-true, lt-ltb, ltb-true, ne_eqb, refl, some_none, sym}
+use Rattle.run_picture.proofs.Lemmas.{◌∙◌, ap, arith, cancel_opened, cases_eq, inl, inr, le-leb, le-ltb, leb-true, lt-ltb, ltb-true, ne_eqb, refl, some_none, sym}
 use Rattle.run_picture.proofs.Figured.{IsKind, TaskKind, band_none, events_none, figure_kind, lane_none, moments_none, shields_none}
 use Rattle.run_picture.proofs.{Counted.once_counted, Rowed.no_rows, Rowed.rows_drawn, Rowed.sum_zero, Truthful.cancel_there}
 

@@ -1,5 +1,6 @@
 -- How many parts of a kind there are, row after row and number after number.
-use Rattle.run_picture.specs.{[], ℕ, ◌&&◌, ◌++◌, ◌+◌, ◌<◌, ◌==◌, ◌∷◌, ◌≡◌, ◌≤◌, Blank, Bool, List, Parts.Parts, Row, Some, all, cond, count_in, length, nat_le, nat_lt, option_map_or, range_with_len}
+use Rattle.std.specs.Prelude.{◌&&◌, ◌++◌, ◌+◌, ◌<◌, ◌==◌, ◌∷◌, ◌≡◌, ◌≤◌}
+use Rattle.run_picture.specs.{[], ℕ, Blank, Bool, List, Parts.Parts, Row, Some, all, cond, count_in, length, nat_le, nat_lt, option_map_or, range_with_len}
 use Rattle.run_picture.specs.{slice_get, suc, zero}
 use Rattle.run_picture.proofs.Lemmas.{◌∙◌, ap, arith, range_push, refl, sum_by, sum_by-append, sym, take, take_all, take_at}
 

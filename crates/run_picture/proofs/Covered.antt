@@ -1,9 +1,10 @@
 -- In a legal history a scope begins to close as its own close does, or as what its owner had open around it does.
-use Rattle.run_picture.specs.{ℕ, ◌&&◌, ◌+◌, ◌<◌, ◌==◌, ◌||◌, ◌≡◌, ◌≤◌, Accepts, BeginClose, Bool, Event, History, Landmark, Legal, Limits, None, Open, Opening, Option, Some, around, before}
+use Rattle.std.specs.Prelude.{◌&&◌, ◌+◌, ◌<◌, ◌==◌, ◌||◌, ◌≡◌, ◌≢◌, ◌≤◌, ◌⊎◌}
+use Rattle.run_picture.specs.{ℕ, Accepts, BeginClose, Bool, Event, History, Landmark, Legal, Limits, None, Open, Opening, Option, Some, around, before}
 use Rattle.run_picture.specs.{begins_closing, begins_to_close, closed, closing, closing_at, closing_place, closing_within, cond, covered_at, covers, earliest, false, first_place, forked_in}
 use Rattle.run_picture.specs.{have_one_opener, in_closing, innermost, is_named, is_some, length, named_at, nat_lt, not, opened_count, opening, option_and_then, option_map_or, option_or, own_around}
 use Rattle.run_picture.specs.{parent, row_check, slice_get, some_below, sooner, suc, surrounding, true, zero}
-use Rattle.run_picture.proofs.Lemmas.{◌∙◌, ◌≢◌, ◌⊎◌, HasUnclosed, and_parts, and_then_some, ap, arith, before_of_before, begin_close_passed, below_some, below_where, both_ways, cases_eq, cases_lt}
+use Rattle.run_picture.proofs.Lemmas.{◌∙◌, HasUnclosed, and_parts, and_then_some, ap, arith, before_of_before, begin_close_passed, below_some, below_where, both_ways, cases_eq, cases_lt}
 use Rattle.run_picture.proofs.Lemmas.{checks_at, closed_is_closing, eq-eqb, eqb-true, false_from_ne_true, get_take, if_some, inl, inner_closed, innermost_unclosed, inr, legal_before, length-take}
 use Rattle.run_picture.proofs.Lemmas.{live_is_unclosed, lt-ltb, ltb-true, not-true, not_refused, opening_before, opening_event, opening_number, opening_since, opening_within, or_cases, or_left}
 use Rattle.run_picture.proofs.Lemmas.{or_right, refl, scope_given, subst, sym, unclosed_before, unclosed_innermost}

@@ -1,5 +1,6 @@
 -- What is written, one number after the other; and which parts there are.
-use Rattle.run_picture.specs.{[], ℕ, ◌++◌, ◌+◌, ◌∷◌, ◌≡◌, Bool, Everywhere, List, Parts.Parts, all, count_in, range_with_len, written}
+use Rattle.std.specs.Prelude.{◌++◌, ◌+◌, ◌∷◌, ◌≡◌}
+use Rattle.run_picture.specs.{[], ℕ, Bool, Everywhere, List, Parts.Parts, all, count_in, range_with_len, written}
 use Rattle.run_picture.proofs.Lemmas.{◌∙◌, ap, append-nil, append_assoc, arith, range_push, refl, sym}
 
 written_join : {A : Type 0} (text : A → List ℕ) (f : ℕ → Parts A) (xs ys : List ℕ) → written text (all f (xs ++ ys)) ≡ written text (all f xs) ++ written text (all f ys)

@@ -1,5 +1,6 @@
 -- The marks of the ends of tasks.
-use Rattle.run_picture.specs.{ℕ, ◌&&◌, ◌+◌, ◌==◌, ◌||◌, ◌≡◌, Bool, EachEndHasOneMark, Folded, Forking, History, List, None, Option, Row, Sheet.Sheet, Some, Words.View, all, cancelled_before, cond}
+use Rattle.std.specs.Prelude.{◌&&◌, ◌+◌, ◌==◌, ◌||◌, ◌≡◌}
+use Rattle.run_picture.specs.{ℕ, Bool, EachEndHasOneMark, Folded, Forking, History, List, None, Option, Row, Sheet.Sheet, Some, Words.View, all, cancelled_before, cond}
 use Rattle.run_picture.specs.{count_by, count_in, drawn_rows, end_place, ended, false, finished, forking, indexes, is_end_of, is_number, is_settled, is_some, lanes_of, no_number, no_subject}
 use Rattle.run_picture.specs.{option_map_or, rejected, row_at, row_drawn, shows, stage, task_lane, task_node, true, unwrap_or}
 use Rattle.run_picture.proofs.Lemmas.{◌∙◌, ap, arith, ended_is, eq-eqb, refl, stage_is, staged, sum_by, sym}

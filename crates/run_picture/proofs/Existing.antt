@@ -1,5 +1,6 @@
 -- Each number that was given has an opening or a forking; and lists of rows, one row more.
-use Rattle.run_picture.specs.{[], ℕ, ◌++◌, ◌+◌, ◌<◌, ◌∷◌, ◌≡◌, ◌≤◌, Bool, Event, Fork, History, List, None, Open, Option, Some, cond, count_by, earliest, false, forked_count, forking, forking_of}
+use Rattle.std.specs.Prelude.{◌++◌, ◌+◌, ◌<◌, ◌∷◌, ◌≡◌, ◌≤◌}
+use Rattle.run_picture.specs.{[], ℕ, Bool, Event, Fork, History, List, None, Open, Option, Some, cond, count_by, earliest, false, forked_count, forking, forking_of}
 use Rattle.run_picture.specs.{is_fork, is_open, is_some, length, numbered_at, opened_count, opening, opening_of, option_and_then, option_or, slice_get, suc, true, zero}
 use Rattle.run_picture.proofs.Lemmas.{◌∙◌, add-one, ap, arith, cases_lt, count_by_at, eq-eqb, inl, inr, refl, subst, take, take_all}
 

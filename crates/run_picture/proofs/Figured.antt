@@ -1,5 +1,6 @@
 -- How many figures of a kind the parts of a picture have, by what the kind is.
-use Rattle.run_picture.specs.{ℕ, ◌*◌, ◌+◌, ◌≡◌, ABar, ALabel, AMark, AReach, ATick, Bar, Blank, Bool, Cause, Drawing.Drawing, Event, Fate, Figure, Folded, Forking, History, Mark, Measure, None, One}
+use Rattle.std.specs.Prelude.{◌*◌, ◌+◌, ◌≡◌}
+use Rattle.run_picture.specs.{ℕ, ABar, ALabel, AMark, AReach, ATick, Bar, Blank, Bool, Cause, Drawing.Drawing, Event, Fate, Figure, Folded, Forking, History, Mark, Measure, None, One}
 use Rattle.run_picture.specs.{Opening, Option, Reach, Shade, Sheet.Sheet, ShownFork, ShownMark, ShownScope, Some, Spot, State, Subject, Tick, Words.View, all, band_shade, bar_in, begins_to_close}
 use Rattle.run_picture.specs.{cancel_drawn, cancel_figures, cancellation, cancelled_bar, cancelled_before, closed_place, closing_bar, cond, count_in, drawn, drawn_rows, end_figure, end_mark, ended}
 use Rattle.run_picture.specs.{event_figures, false, figure_of, folded_shade, fork_drawn, fork_of, forked_lane, forking, held_mark, held_off, in_view, is_accident, lane_by, length, life_drawn, mark_at}

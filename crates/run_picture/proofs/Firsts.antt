@@ -1,6 +1,7 @@
 -- The first place at which something is so.
-use Rattle.run_picture.specs.{ℕ, ◌<◌, ◌≡◌, ◌≤◌, None, Option, Some, earliest, min, option_or, sooner, suc, zero}
-use Rattle.run_picture.proofs.Lemmas.{◌⊎◌, ap, arith, cases_eq, cases_lt, inl, inr, refl, subst, sym}
+use Rattle.std.specs.Prelude.{◌<◌, ◌≡◌, ◌≤◌, ◌⊎◌}
+use Rattle.run_picture.specs.{ℕ, None, Option, Some, earliest, min, option_or, sooner, suc, zero}
+use Rattle.run_picture.proofs.Lemmas.{ap, arith, cases_eq, cases_lt, inl, inr, refl, subst, sym}
 
 -- it is so at the place
 pub record IsThere (test : ℕ → Type 0) (n i : ℕ) : Type 0 where

@@ -1,5 +1,6 @@
 -- The rows, one node after the other.
-use Rattle.run_picture.specs.{[], ℕ, ◌++◌, ◌+◌, ◌∷◌, ◌≡◌, Bool, Class, History, List, Placed, Row, Some, class_of, folded_from, folded_in, length, map, nat_le, or_begun, plain, slice_get, taken_in}
+use Rattle.std.specs.Prelude.{◌++◌, ◌+◌, ◌∷◌, ◌≡◌}
+use Rattle.run_picture.specs.{[], ℕ, Bool, Class, History, List, Placed, Row, Some, class_of, folded_from, folded_in, length, map, nat_le, or_begun, plain, slice_get, taken_in}
 use Rattle.run_picture.proofs.Lemmas.{◌∙◌, ap, refl, take, take_at}
 
 -- the last row decides

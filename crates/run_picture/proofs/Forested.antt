@@ -1,8 +1,9 @@
 -- A walk over a forest comes to each node exactly once, if each node's parent ranks below it. A node's key is its
 -- parent, or the number of nodes, if it is a root.
-use Rattle.run_picture.specs.{[], ℕ, ◌++◌, ◌+◌, ◌-◌, ◌<◌, ◌==◌, ◌∷◌, ◌≡◌, ◌≤◌, Bool, List, None, Option, Placed, Some, cond, count_by, drop, false, first_from, first_with, get_or, length, nat_le}
+use Rattle.std.specs.Prelude.{◌++◌, ◌+◌, ◌-◌, ◌<◌, ◌==◌, ◌∷◌, ◌≡◌, ◌≢◌, ◌≤◌, ◌⊎◌}
+use Rattle.run_picture.specs.{[], ℕ, Bool, List, None, Option, Placed, Some, cond, count_by, drop, false, first_from, first_with, get_or, length, nat_le}
 use Rattle.run_picture.specs.{nat_lt, rows_from, suc, true, zero}
-use Rattle.run_picture.proofs.Lemmas.{◌∙◌, ◌≢◌, ◌⊎◌, ap, arith, cases_eq, cases_lt, count_by-le-length, count_by-take-le, count_by_more_no, count_by_more_yes, eq-eqb, get_or-drop, inl, inr, le-leb}
+use Rattle.run_picture.proofs.Lemmas.{◌∙◌, ap, arith, cases_eq, cases_lt, count_by-le-length, count_by-take-le, count_by_more_no, count_by_more_yes, eq-eqb, get_or-drop, inl, inr, le-leb}
 use Rattle.run_picture.proofs.Lemmas.{le-ltb, length-drop, lt-leb, lt-ltb, ltb-false, ltb-true, ne_eqb, refl, subst, sum_by-append, sum_by-cons, sym, take}
 
 -- ---- the first node with a key

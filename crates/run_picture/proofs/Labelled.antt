@@ -1,5 +1,6 @@
 -- The labels of tasks and scopes.
-use Rattle.run_picture.specs.{ℕ, ◌+◌, ◌==◌, ◌≡◌, Bool, EachBandHasOneLabel, EachLaneHasOneLabel, Folded, Forking, History, None, Opening, Option, Sheet.Sheet, Some, all, bands_of, cond, count_in}
+use Rattle.std.specs.Prelude.{◌+◌, ◌==◌, ◌≡◌}
+use Rattle.run_picture.specs.{ℕ, Bool, EachBandHasOneLabel, EachLaneHasOneLabel, Folded, Forking, History, None, Opening, Option, Sheet.Sheet, Some, all, bands_of, cond, count_in}
 use Rattle.run_picture.specs.{false, forking, indexes, is_label_of, is_scope_subject, is_task_subject, lanes_of, no_number, opening, option_map_or, row_at, scope_lane, scope_node, task_lane}
 use Rattle.run_picture.specs.{task_node}
 use Rattle.run_picture.proofs.Lemmas.{◌∙◌, ap, arith, eq-eqb, refl}

@@ -1,5 +1,6 @@
 -- The closing line in the lane of a scope.
-use Rattle.run_picture.specs.{ℕ, ◌≡◌, Bar, Blank, Bool, Cause, EachClosingBeginsThere, EachClosingHasOneLine, Fate, None, Option, Shade, Some, band, band_shade, bar_in, begins_to_close, cancellation}
+use Rattle.std.specs.Prelude.{◌≡◌}
+use Rattle.run_picture.specs.{ℕ, Bar, Blank, Bool, Cause, EachClosingBeginsThere, EachClosingHasOneLine, Fate, None, Option, Shade, Some, band, band_shade, bar_in, begins_to_close, cancellation}
 use Rattle.run_picture.specs.{closed_place, cond, count_in, false, is_accident, is_closing_line, is_some, option_map_or, row_y, scope_of, true}
 use Rattle.run_picture.proofs.Lemmas.{◌∙◌, ap, arith, refl}
 use Rattle.run_picture.proofs.Covered.{begins_is, begins_there}

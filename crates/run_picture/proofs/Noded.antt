@@ -1,5 +1,6 @@
 -- The keys of the nodes, one node after the other.
-use Rattle.run_picture.specs.{[], ℕ, ◌++◌, ◌+◌, ◌<◌, ◌^◌, ◌∷◌, ◌≡◌, ◌≤◌, AreKeys, History, List, forked_count, get_or, keys, length, map, min, node_count, opened_count, range_with_len, scope_key}
+use Rattle.std.specs.Prelude.{◌++◌, ◌+◌, ◌<◌, ◌^◌, ◌∷◌, ◌≡◌, ◌≤◌}
+use Rattle.run_picture.specs.{[], ℕ, AreKeys, History, List, forked_count, get_or, keys, length, map, min, node_count, opened_count, range_with_len, scope_key}
 use Rattle.run_picture.specs.{scope_keys, suc, task_key, task_keys, zero}
 use Rattle.run_picture.proofs.Lemmas.{◌∙◌, ap, arith, get_or-append-add, get_or-map-range_with_len, get_or_append_left, length-append, length-map-range_with_len, map-range_with_len_more, refl, subst}
 use Rattle.run_picture.proofs.Lemmas.{sym}

@@ -1,5 +1,6 @@
 -- The rows of a forest, one node after the other.
-use Rattle.run_picture.specs.{[], ℕ, ◌++◌, ◌+◌, ◌-◌, ◌<◌, ◌∷◌, ◌≡◌, List, None, Option, Placed, Some, get_or, rows_from, suc, zero}
+use Rattle.std.specs.Prelude.{◌++◌, ◌+◌, ◌-◌, ◌<◌, ◌∷◌, ◌≡◌}
+use Rattle.run_picture.specs.{[], ℕ, List, None, Option, Placed, Some, get_or, rows_from, suc, zero}
 use Rattle.run_picture.proofs.Lemmas.{◌∙◌, ap, append-nil, append_assoc, arith, refl, sym}
 
 pub rows_none : (child sibling : List (Option ℕ)) (steps depth : ℕ) → rows_from child sibling steps depth None ≡ []

@@ -1,5 +1,6 @@
 -- Where a scope became cancelled stands in the history.
-use Rattle.run_picture.specs.{ℕ, ◌<◌, ◌≡◌, Cause, FirstCancel, History, None, Opening, Option, Some, cancellation, cancelled_at, cause, first_cancel, length, max, opening, option_and_then, option_map}
+use Rattle.std.specs.Prelude.{◌<◌, ◌≡◌}
+use Rattle.run_picture.specs.{ℕ, Cause, FirstCancel, History, None, Opening, Option, Some, cancellation, cancelled_at, cause, first_cancel, length, max, opening, option_and_then, option_map}
 use Rattle.run_picture.specs.{option_map_or}
 use Rattle.run_picture.proofs.Lemmas.{ap, arith, cancel_within_history, opening_within, refl}
 

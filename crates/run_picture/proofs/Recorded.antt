@@ -1,5 +1,6 @@
 -- Each task, scope and cancel has its record, and each record tells the truth.
-use Rattle.run_picture.specs.{ℕ, ◌&&◌, ◌+◌, ◌-◌, ◌<◌, ◌==◌, ◌||◌, ◌≡◌, ◌≤◌, AClosing, ANever, AScope, ATask, ATrack, AWait, AnArrow, AnInstant, Blank, Bool, Both, Cause, EachCancelHasOneInstant}
+use Rattle.std.specs.Prelude.{◌&&◌, ◌+◌, ◌-◌, ◌<◌, ◌==◌, ◌||◌, ◌≡◌, ◌≢◌, ◌≤◌}
+use Rattle.run_picture.specs.{ℕ, AClosing, ANever, AScope, ATask, ATrack, AWait, AnArrow, AnInstant, Blank, Bool, Both, Cause, EachCancelHasOneInstant}
 use Rattle.run_picture.specs.{EachClosingHasOneInstant, EachRecordIsSo, EachScopeHasOneSlice, EachTaskBeginsOnce, EachTaskHasOneSlice, EndsBy, Everywhere, Forking, GoesFrom, History, IsArrowOf}
 use Rattle.run_picture.specs.{IsBandOf, IsClosingOf, IsNeverOf, IsSliceOf, IsSo, IsWait, IsWaitOf, Landmark, Legal, Limits, List, None, One, Opening, Option, Parts.Parts, Record, Some, State, all}
 use Rattle.run_picture.specs.{arrow_from, arrow_in, band_in, beginning, begins_to_close, cancel_from, cancel_records, cancellation, cancelled_before, closing, closing_from, closing_in, cond, count_in}
@@ -7,7 +8,7 @@ use Rattle.run_picture.specs.{false, finished, finishes, first_place, forked_cou
 use Rattle.run_picture.specs.{is_slice_of, is_some, length, micros, nat_le, nat_lt, never_in, opened_count, opening, option_map, option_map_or, option_or, range_with_len, reached_from, rejected}
 use Rattle.run_picture.specs.{rejects, result_in, scope_numbers, scope_records, slice_get, slice_in, started, starts, state, stretch_in, task_numbers, task_records, track_in, true, unwrap_or, wait_by}
 use Rattle.run_picture.specs.{wait_in}
-use Rattle.run_picture.proofs.Lemmas.{◌∙◌, ◌≢◌, ap, arith, cases_eq, closed_anywhere, closed_named, ended_is, ended_named, eq-eqb, forked_after, inl, inr, le-leb, lt-ltb, ne_eqb, opened_after, placed}
+use Rattle.run_picture.proofs.Lemmas.{◌∙◌, ap, arith, cases_eq, closed_anywhere, closed_named, ended_is, ended_named, eq-eqb, forked_after, inl, inr, le-leb, lt-ltb, ne_eqb, opened_after, placed}
 use Rattle.run_picture.proofs.Lemmas.{refl, start_is, started_is, started_named, subst, sym}
 use Rattle.run_picture.proofs.Truthful.{cancel_there, everywhere_if, everywhere_or}
 use Rattle.run_picture.proofs.{Cancelled.cancelled_drawn, Counted.once_counted, Covered.begins_is, Covered.begins_there, Drawings.everywhere_all, Drawings.none_in_all}

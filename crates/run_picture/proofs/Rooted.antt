@@ -1,5 +1,6 @@
 -- Each node of a legal history is placed exactly once: what lies above another stands earlier in the history.
-use Rattle.run_picture.specs.{[], ℕ, ◌&&◌, ◌+◌, ◌-◌, ◌<◌, ◌==◌, ◌∷◌, ◌≡◌, ◌≤◌, EachIsPlacedOnce, EachScopeHasOneBand, EachTaskHasOneLane, Forking, History, Legal, Limits, List, Node, None, Opening}
+use Rattle.std.specs.Prelude.{◌&&◌, ◌+◌, ◌-◌, ◌<◌, ◌==◌, ◌∷◌, ◌≡◌, ◌≤◌}
+use Rattle.run_picture.specs.{[], ℕ, EachIsPlacedOnce, EachScopeHasOneBand, EachTaskHasOneLane, Forking, History, Legal, Limits, List, Node, None, Opening}
 use Rattle.run_picture.specs.{Option, Placed, Row, Sheet.Sheet, Some, Words.View, before, children, closed_place, cond, count_by, drawn_rows, false, first_from, folded_from, forked_count, forking}
 use Rattle.run_picture.specs.{get_or, innermost, is_seen, keys, length, map, max, meets, min, nat_le, nat_lt, node_count, node_of, opened_count, opening, option_and_then, option_map_or, own_around}
 use Rattle.run_picture.specs.{placed_rows, plain, rows_from, rows_of, scope_key, scope_node, scope_seen, seen_by, seen_rows, siblings, task_end, task_key, task_node, task_seen, tasks, times_placed}

@@ -1,8 +1,9 @@
 -- How many figures of a kind the rows have, by the node that begins each.
-use Rattle.run_picture.specs.{[], ℕ, ◌+◌, ◌-◌, ◌<◌, ◌==◌, ◌∷◌, ◌≡◌, ◌≤◌, Bool, Figure, Folded, Forking, History, List, Node, None, Opening, Option, Row, Sheet.Sheet, Some, all, cond, count_in}
+use Rattle.std.specs.Prelude.{◌+◌, ◌-◌, ◌<◌, ◌==◌, ◌∷◌, ◌≡◌, ◌≢◌, ◌≤◌}
+use Rattle.run_picture.specs.{[], ℕ, Bool, Figure, Folded, Forking, History, List, Node, None, Opening, Option, Row, Sheet.Sheet, Some, all, cond, count_in}
 use Rattle.run_picture.specs.{drawn_rows, false, forked_count, forking, indexes, nat_lt, node_lane, node_of, opened_count, opening, row_at, row_drawn, scope_lane, scope_node, scopes, task_lane}
 use Rattle.run_picture.specs.{task_node, tasks, true}
-use Rattle.run_picture.proofs.Lemmas.{◌∙◌, ◌≢◌, ap, arith, cases_eq, cases_lt, eq-eqb, forked_after, inl, inr, le-ltb, lt-ltb, ne_eqb, opened_after, refl, sum_by, sum_by-cons, sym}
+use Rattle.run_picture.proofs.Lemmas.{◌∙◌, ap, arith, cases_eq, cases_lt, eq-eqb, forked_after, inl, inr, le-ltb, lt-ltb, ne_eqb, opened_after, refl, sum_by, sum_by-cons, sym}
 use Rattle.run_picture.proofs.Counted.{rows_counted}
 
 pub sum_zero : (w : Row → ℕ) (rows : List Row) → ((r : Row) → w r ≡ 0) → sum_by w rows ≡ 0

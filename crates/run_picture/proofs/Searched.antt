@@ -1,5 +1,6 @@
 -- How the search for what was innermost goes on, and where it ends.
-use Rattle.run_picture.specs.{ℕ, ◌+◌, ◌<◌, ◌≡◌, ◌≤◌, History, IsLastOf, IsSearched, None, Opening, Option, Some, before, closed, false, innermost, is_some, opened_count, opening, option_and_then}
+use Rattle.std.specs.Prelude.{◌+◌, ◌<◌, ◌≡◌, ◌≤◌}
+use Rattle.run_picture.specs.{ℕ, History, IsLastOf, IsSearched, None, Opening, Option, Some, before, closed, false, innermost, is_some, opened_count, opening, option_and_then}
 use Rattle.run_picture.specs.{own_around, true, unwrap_or}
 use Rattle.run_picture.proofs.Lemmas.{◌∙◌, ap, arith, before_of_before, cases_eq, cases_lt, closed_later, inl, innermost_is, innermost_is_none, innermost_later, innermost_none, innermost_unclosed}
 use Rattle.run_picture.proofs.Lemmas.{inr, length-take, opened_after, opening_before, opening_number, opening_since, opening_within, refl, scope_given, subst, sym}

@@ -1,5 +1,6 @@
 -- The nodes that are in view, one node after the other.
-use Rattle.run_picture.specs.{[], ℕ, ◌++◌, ◌+◌, ◌==◌, ◌∷◌, ◌≡◌, Bool, History, List, Placed, Some, Words.View, cond, count_by, false, is_seen, seen_rows, slice_get, true}
+use Rattle.std.specs.Prelude.{◌++◌, ◌+◌, ◌==◌, ◌∷◌, ◌≡◌}
+use Rattle.run_picture.specs.{[], ℕ, Bool, History, List, Placed, Some, Words.View, cond, count_by, false, is_seen, seen_rows, slice_get, true}
 use Rattle.run_picture.proofs.Lemmas.{◌∙◌, ap, append-nil, arith, eqb-true, filter-append, refl, sum_by-cons, sym, take, take_at, true≢false}
 
 abbrev zero_by : Bool → ℕ

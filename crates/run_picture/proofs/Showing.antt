@@ -1,6 +1,7 @@
 -- The rows by node, one row after the other; and the tables of the forest as lists.
-use Rattle.run_picture.specs.{[], ℕ, ◌&&◌, ◌+◌, ◌<◌, ◌==◌, ◌∷◌, ◌≡◌, Bool, Words.Forest, History, IsForestOf, List, None, Option, Row, Some, children, cond, earliest, false, first_from, get_or}
-use Rattle.run_picture.specs.{if◌then◌else◌, is_none, keys, length, node_count, option_and_then, option_or, shown_in, siblings, slice_get, suc, true}
+use Rattle.std.specs.Prelude.{if◌then◌else◌, ◌&&◌, ◌+◌, ◌<◌, ◌==◌, ◌∷◌, ◌≡◌}
+use Rattle.run_picture.specs.{[], ℕ, Bool, Words.Forest, History, IsForestOf, List, None, Option, Row, Some, children, cond, earliest, false, first_from, get_or}
+use Rattle.run_picture.specs.{is_none, keys, length, node_count, option_and_then, option_or, shown_in, siblings, slice_get, suc, true}
 use Rattle.run_picture.proofs.Lemmas.{◌∙◌, ap, arith, earliest_more, get_or-map-range_with_len, length-map-range_with_len, refl, sym}
 use Rattle.run_picture.proofs.Noded.{keys_long}
 use Rattle.run_picture.specs.Chart.{row_at}

@@ -1,5 +1,6 @@
 -- At which stage a task is that ended, or never starts, by where it started and ended.
-use Rattle.run_picture.specs.{[], ℕ, ◌||◌, ◌∷◌, ◌≡◌, Bool, Event, Finished, Forking, History, Legal, Limits, List, Never, Some, before, cancelled_before, false, finished, finishes, forking}
+use Rattle.std.specs.Prelude.{◌||◌, ◌∷◌, ◌≡◌}
+use Rattle.run_picture.specs.{[], ℕ, Bool, Event, Finished, Forking, History, Legal, Limits, List, Never, Some, before, cancelled_before, false, finished, finishes, forking}
 use Rattle.run_picture.specs.{is_running, list_any, rejected, rejects, slice_get, stage, started, starts, suc, true, zero}
 use Rattle.run_picture.proofs.Lemmas.{◌∙◌, ap, arith, cases_eq, cases_lt, finisher_passed, get_take, inl, inr, refl, rejecter_passed, running_forked, stage_is, staged, starter_passed, sym, take}
 use Rattle.run_picture.proofs.Lemmas.{waiting_task}

@@ -1,5 +1,6 @@
 -- The rows stand for one stretch of the placed nodes after the other.
-use Rattle.run_picture.specs.{[], ℕ, ◌&&◌, ◌++◌, ◌+◌, ◌<◌, ◌==◌, ◌||◌, ◌∷◌, ◌≡◌, ◌≤◌, Alike, All, Below, Bool, Class, EachRowCountsItsOwn, Fold, Folded, History, IsFoldOf, List, None, Option, Placed}
+use Rattle.std.specs.Prelude.{◌&&◌, ◌++◌, ◌+◌, ◌<◌, ◌==◌, ◌||◌, ◌∷◌, ◌≡◌, ◌≤◌}
+use Rattle.run_picture.specs.{[], ℕ, Alike, All, Below, Bool, Class, EachRowCountsItsOwn, Fold, Folded, History, IsFoldOf, List, None, Option, Placed}
 use Rattle.run_picture.specs.{Rest, Row, Some, StandFor, begun, begun_with, class_of, cond, counted, false, fits, folded_from, folded_in, is_done, is_ended_as, is_failure, is_task, is_unended, length}
 use Rattle.run_picture.specs.{map, max, more_if, nat_le, nat_lt, not, nothing, one_more, option_map_or, or_begun, plain, true}
 use Rattle.run_picture.proofs.Lemmas.{◌∙◌, All-cons, All-head, All-nil, All-tail, and_parts, ap, append-nil, append_assoc, arith, count_by-le-length, eqb-true, inl, inr, length-append, ltb-true}

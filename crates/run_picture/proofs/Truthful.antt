@@ -1,12 +1,13 @@
 -- Each mark and each line of a cancel tells the truth.
-use Rattle.run_picture.specs.{ℕ, ◌&&◌, ◌+◌, ◌||◌, ◌≡◌, Blank, Bool, Cause, ComesTo, Drawing.Drawing, EachMarkIsSo, Event, Everywhere, Fate, Figure, FirstCancel, Folded, Forking, History, HoldsAgainst}
+use Rattle.std.specs.Prelude.{if◌then◌else◌, ◌&&◌, ◌+◌, ◌||◌, ◌≡◌, ◌⊎◌}
+use Rattle.run_picture.specs.{ℕ, Blank, Bool, Cause, ComesTo, Drawing.Drawing, EachMarkIsSo, Event, Everywhere, Fate, Figure, FirstCancel, Folded, Forking, History, HoldsAgainst}
 use Rattle.run_picture.specs.{IsCancelledAt, Legal, Limits, Mark, Node, None, Opening, Option, OwnCancel, Parts.Parts, Row, Shade, Sheet.Sheet, Some, StandsAt, TellsTruth, Words.View, around, bar_in}
 use Rattle.run_picture.specs.{before, begins_to_close, cancel_drawn, cancel_figures, cancellation, cancelled_at, cancelled_before, cause, chain_by, closed, closed_place, cond, drawn, drawn_rows}
 use Rattle.run_picture.specs.{earliest_on, end_mark, ended, event_figures, false, finished, first_cancel, first_cancel_by, fork_drawn, forked_lane, forking, goes_on, held_mark, held_off}
-use Rattle.run_picture.specs.{if◌then◌else◌, in_view, indexes, inwards, is_some, lane_by, life_drawn, mark_at, marked, moment_line, nat_le, nat_lt, nearer, node_lane, node_of, not, onward}
+use Rattle.run_picture.specs.{in_view, indexes, inwards, is_some, lane_by, life_drawn, mark_at, marked, moment_line, nat_le, nat_lt, nearer, node_lane, node_of, not, onward}
 use Rattle.run_picture.specs.{opened_shield, opening, option_and_then, option_map, option_map_or, outer, outwards, own, own_cancel, places, rejected, row_at, row_drawn, row_y, scope_lane}
 use Rattle.run_picture.specs.{scope_numbers, scope_of, scope_row, shield_figures, shows, slice_get, state, suc, task_lane, there, tick_of, true, zero}
-use Rattle.run_picture.proofs.Lemmas.{◌∙◌, ◌⊎◌, and_then_some, ap, ended_is, if_some, inl, inr, ltb-true, refl, started_is, subst, sym}
+use Rattle.run_picture.proofs.Lemmas.{◌∙◌, and_then_some, ap, ended_is, if_some, inl, inr, ltb-true, refl, started_is, subst, sym}
 use Rattle.run_picture.proofs.{Drawings.everywhere_all, Staged.ended_started, Staged.ended_unstarted, Staged.under_cancel}
 use Rattle.run_picture.specs.{Lanes.started, Marked.IsSo}
 use Rattle.scope_rules.specs.Tasks as tasks

@@ -1,5 +1,6 @@
 -- How texts that are written one after the other grow.
-use Rattle.run_picture.specs.{[], ℕ, ◌%◌, ◌++◌, ◌+◌, ◌/◌, ◌<◌, ◌∷◌, ◌≡◌, ◌≤◌, List, cond, digits_in, each_text, number_text, suc, zero}
+use Rattle.std.specs.Prelude.{◌%◌, ◌++◌, ◌+◌, ◌/◌, ◌<◌, ◌∷◌, ◌≡◌, ◌≤◌}
+use Rattle.run_picture.specs.{[], ℕ, List, cond, digits_in, each_text, number_text, suc, zero}
 use Rattle.run_picture.proofs.Lemmas.{◌∙◌, add-one, ap, arith, cases_lt, inl, inr, le-ltb, lt-ltb, refl, sym}
 
 pub each_none : (f : ℕ → List ℕ) → each_text f 0 ≡ []

@@ -1,5 +1,6 @@
 -- What lay around a scope as it was opened, and how it is found by number.
-use Rattle.run_picture.specs.Words.{ℕ, ◌+◌, ◌<◌, ◌≡◌, ◌≤◌, HasFirsts, History, Landmark, List, Nest, None, Opening, Option, Owns, Some, before, closed, get_or, innermost, length, opened_count}
+use Rattle.std.specs.Prelude.{◌+◌, ◌<◌, ◌≡◌, ◌≤◌}
+use Rattle.run_picture.specs.Words.{ℕ, HasFirsts, History, Landmark, List, Nest, None, Opening, Option, Owns, Some, before, closed, get_or, innermost, length, opened_count}
 use Rattle.run_picture.specs.Words.{opening, option_and_then, true, unwrap_or}
 
 -- the innermost scope of the actor that opened scope s, just before it did

@@ -1,5 +1,6 @@
 -- The axis of a picture with times: a line at each of some round ones, and the time at its foot.
-use Rattle.run_picture.specs.Words.{[], ℕ, ◌&&◌, ◌*◌, ◌++◌, ◌+◌, ◌-◌, ◌/◌, ◌==◌, AxisMark, History, List, codes, decimal, if◌then◌else◌, length, nat_le, range_with_len}
+use Rattle.std.specs.Prelude.{◌&&◌, ◌*◌, ◌++◌, ◌+◌, ◌-◌, ◌/◌, ◌==◌, if◌then◌else◌}
+use Rattle.run_picture.specs.Words.{[], ℕ, AxisMark, History, List, codes, decimal, length, nat_le, range_with_len}
 use Rattle.run_picture.specs.{Chart.drawn_rows, Parts.Blank, Parts.One, Parts.Parts, Parts.all, Parts.written, Sheet.Sheet, Spots.row_y, View.first_time, View.span_time, View.x_by}
 
 -- the power of ten of which the span has at most fifty

@@ -1,6 +1,7 @@
 -- What a row and a bar are called.
-use Rattle.run_picture.specs.Words.{[], ℕ, ◌++◌, ◌==◌, Events, Fate, Folded, Label, Lines, List, Measure, Millis, None, Option, ShownFork, ShownScope, Some, Span, Subject, Title, codes, decimal}
-use Rattle.run_picture.specs.Words.{if◌then◌else◌, joiner_text, options_text, text_of}
+use Rattle.std.specs.Prelude.{if◌then◌else◌, ◌++◌, ◌==◌}
+use Rattle.run_picture.specs.Words.{[], ℕ, Events, Fate, Folded, Label, Lines, List, Measure, Millis, None, Option, ShownFork, ShownScope, Some, Span, Subject, Title, codes, decimal}
+use Rattle.run_picture.specs.Words.{joiner_text, options_text, text_of}
 use Rattle.run_picture.specs.MarkText.{cause_text, ended_text}
 
 -- the owner of a scope, if it is a task

@@ -1,6 +1,7 @@
 -- What is kept of a run while it is drawn.
-use Rattle.run_picture.specs.Words.{[], ℕ, ◌&&◌, ◌+◌, ◌<◌, ◌==◌, ◌∷◌, ◌≡◌, Chart, Drawn, HasFirsts, History, Landmark, List, None, Option, Placed, Row, Some, earliest, forked_count, get_or}
-use Rattle.run_picture.specs.Words.{if◌then◌else◌, is_none, length, map, nat_lt, opened_count, option_and_then, range_with_len, slice_get}
+use Rattle.std.specs.Prelude.{if◌then◌else◌, ◌&&◌, ◌+◌, ◌<◌, ◌==◌, ◌∷◌, ◌≡◌}
+use Rattle.run_picture.specs.Words.{[], ℕ, Chart, Drawn, HasFirsts, History, Landmark, List, None, Option, Placed, Row, Some, earliest, forked_count, get_or}
+use Rattle.run_picture.specs.Words.{is_none, length, map, nat_lt, opened_count, option_and_then, range_with_len, slice_get}
 use Rattle.run_picture.specs.Nodes.{keys, node_count, scope_node}
 use Rattle.run_picture.specs.{Arounds.IsNestOf, Closings.AreClosings, Forest.first_from, Forest.rows_from, Rows.rows_of, Seen.seen_rows, Sheet.Sheet, Sheet.sheet_of}
 

@@ -1,5 +1,6 @@
 -- Where scopes begin to close, by a close of their own or by one that covers them.
-use Rattle.run_picture.specs.Words.{ℕ, ◌+◌, ◌<◌, ◌≡◌, Firsts, History, Landmark, None, Option, Some, closing_at, earliest, first_place, get_or, if◌then◌else◌, length, min, option_and_then, suc, zero}
+use Rattle.std.specs.Prelude.{◌+◌, ◌<◌, ◌≡◌, if◌then◌else◌}
+use Rattle.run_picture.specs.Words.{ℕ, Firsts, History, Landmark, None, Option, Some, closing_at, earliest, first_place, get_or, length, min, option_and_then, suc, zero}
 use Rattle.run_picture.specs.Arounds.{own_around}
 
 -- the place i, if a close that covers scope s begins there

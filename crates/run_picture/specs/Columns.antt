@@ -1,5 +1,6 @@
 -- What the page of a run reads: a row for each task and for each scope, in the words of the rules.
-use Rattle.run_picture.specs.Words.{ℕ, ◌+◌, ◌≡◌, Columns, HasFirsts, History, Landmark, Legal, Limits, List, Places, ScopeRow, Some, TaskRow, cancellation, first_place, forked_count, forking, length}
+use Rattle.std.specs.Prelude.{◌+◌, ◌≡◌}
+use Rattle.run_picture.specs.Words.{ℕ, Columns, HasFirsts, History, Landmark, Legal, Limits, List, Places, ScopeRow, Some, TaskRow, cancellation, first_place, forked_count, forking, length}
 use Rattle.run_picture.specs.Words.{opened_count, opening, parent, slice_get, stage, state}
 use Rattle.run_picture.specs.{Arounds.IsNestOf, Closings.AreClosings, Closings.closing_place}
 

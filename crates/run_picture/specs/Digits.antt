@@ -1,5 +1,6 @@
 -- How a page writes numbers: in digits of 32, in characters that mean nothing to HTML.
-use Rattle.run_picture.specs.Words.{[], ℕ, ◌%◌, ◌*◌, ◌++◌, ◌+◌, ◌-◌, ◌/◌, ◌∷◌, List, Option, get_or, if◌then◌else◌, length, min, nat_lt, option_map_or, suc, zero}
+use Rattle.std.specs.Prelude.{◌%◌, ◌*◌, ◌++◌, ◌+◌, ◌-◌, ◌/◌, ◌∷◌, if◌then◌else◌}
+use Rattle.run_picture.specs.Words.{[], ℕ, List, Option, get_or, length, min, nat_lt, option_map_or, suc, zero}
 
 -- the number, in so many digits and one more at the most: the lowest first, each but the last with 32 more
 unfoldable pub digits_in : ℕ → ℕ → List ℕ

@@ -1,5 +1,6 @@
 -- What is drawn, as data: the text of a picture is what its figures are written as, one after the other.
-use Rattle.run_picture.specs.Words.{ℕ, Bar, Label, List, Reach, ShownMark, Tick, View, if◌then◌else◌}
+use Rattle.std.specs.Prelude.{if◌then◌else◌}
+use Rattle.run_picture.specs.Words.{ℕ, Bar, Label, List, Reach, ShownMark, Tick, View}
 use Rattle.run_picture.specs.{Captions.label_text, Marks.mark_text, Parts.written, Strokes.bar_text, Strokes.reach_text, Strokes.tick_text, View.shows}
 pub use Rattle.run_picture.specs.Parts.{Parts, Blank, One, Both, Everywhere, all, count_in}
 

@@ -1,5 +1,6 @@
 -- Nodes in the order of the tree that they form. Each node has a key: its parent, or the number of nodes, if it is a root.
-use Rattle.run_picture.specs.Words.{[], ℕ, ◌++◌, ◌+◌, ◌<◌, ◌==◌, ◌^◌, ◌∷◌, ◌≡◌, ◌≤◌, Forest, List, None, Option, Placed, Some, drop, get_or, if◌then◌else◌, length, suc, zero}
+use Rattle.std.specs.Prelude.{◌++◌, ◌+◌, ◌<◌, ◌==◌, ◌^◌, ◌∷◌, ◌≡◌, ◌≤◌, if◌then◌else◌}
+use Rattle.run_picture.specs.Words.{[], ℕ, Forest, List, None, Option, Placed, Some, drop, get_or, length, suc, zero}
 
 -- the keys are those of nodes
 pub record AreKeys (keys : List ℕ) : Type 0 where

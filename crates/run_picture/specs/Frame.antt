@@ -1,5 +1,6 @@
 -- What stands around the rows: the picture's head and its foot.
-use Rattle.run_picture.specs.Words.{ℕ, ◌*◌, ◌++◌, ◌+◌, ◌/◌, Bool, Frame, List, codes, decimal, false, true}
+use Rattle.std.specs.Prelude.{◌*◌, ◌++◌, ◌+◌, ◌/◌}
+use Rattle.run_picture.specs.Words.{ℕ, Bool, Frame, List, codes, decimal, false, true}
 use Rattle.run_picture.specs.Pieces.{cancel_legend, dark, end_shapes, light, line_legend, mark_legend, scope_shapes, svg_begin}
 use Rattle.run_picture.specs.{Spots.row_y, View.high, View.natural_width, View.page_width}
 

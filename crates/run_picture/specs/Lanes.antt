@@ -1,6 +1,7 @@
 -- What a row draws: a task, a scope, or a closed scope with all that lies in it.
-use Rattle.run_picture.specs.Words.{ℕ, ◌*◌, ◌+◌, Bar, Bool, Ended, Fate, Folded, Forking, History, Label, Landmark, Mark, Node, None, Opening, Option, Row, Shade, Some, State, Subject, cancellation}
-use Rattle.run_picture.specs.Words.{cancelled_before, false, first_place, forking, if◌then◌else◌, min, nat_lt, opening, option_map_or, option_or, state, true}
+use Rattle.std.specs.Prelude.{if◌then◌else◌, ◌*◌, ◌+◌}
+use Rattle.run_picture.specs.Words.{ℕ, Bar, Bool, Ended, Fate, Folded, Forking, History, Label, Landmark, Mark, Node, None, Opening, Option, Row, Shade, Some, State, Subject, cancellation}
+use Rattle.run_picture.specs.Words.{cancelled_before, false, first_place, forking, min, nat_lt, opening, option_map_or, option_or, state, true}
 use Rattle.run_picture.specs.Drawing.{Blank, Both, Drawing, bar, in_view, label, mark}
 use Rattle.run_picture.specs.{Cancels.is_accident, Closings.begins_to_close, Rows.node_of, Sheet.Sheet, Sites.closed_place, Sites.end_x, Sites.mark_at, Sites.span_in, Sites.x_in, Spots.row_y}
 use Rattle.run_picture.specs.declared.marks.Mark.TheVariants.{Never}

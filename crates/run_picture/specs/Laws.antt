@@ -1,5 +1,6 @@
 -- Laws of pictures, in words that are not those of the drawing.
-use Rattle.run_picture.specs.Words.{[], ℕ, ◌++◌, ◌<◌, ◌==◌, ◌||◌, ◌∷◌, ◌≡◌, ◌≤◌, Alike, All, Below, Bool, Class, Folded, Forking, History, Legal, Limits, List, None, Opening, Placed, Rest, Row, Some}
+use Rattle.std.specs.Prelude.{◌++◌, ◌<◌, ◌==◌, ◌||◌, ◌∷◌, ◌≡◌, ◌≤◌}
+use Rattle.run_picture.specs.Words.{[], ℕ, Alike, All, Below, Bool, Class, Folded, Forking, History, Legal, Limits, List, None, Opening, Placed, Rest, Row, Some}
 use Rattle.run_picture.specs.Words.{cond, count_by, forking, length, nat_lt, opening, true}
 use Rattle.run_picture.specs.Rows.{class_of, is_done, is_failure, is_task, is_unended, rows_of}
 use Rattle.run_picture.specs.{Chart.drawn_rows, Chart.placed_rows, Nodes.node_count, Nodes.scope_node, Nodes.task_node, Seen.task_end, Sheet.Sheet, Sites.closed_place, View.meets}

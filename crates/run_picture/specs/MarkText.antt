@@ -1,5 +1,6 @@
 -- What marks and bars say of ends and cancels.
-use Rattle.run_picture.specs.Words.{ℕ, ◌++◌, Cause, List, None, Option, Some, State, codes, decimal, fault_text, kind_word, value_text}
+use Rattle.std.specs.Prelude.{◌++◌}
+use Rattle.run_picture.specs.Words.{ℕ, Cause, List, None, Option, Some, State, codes, decimal, fault_text, kind_word, value_text}
 
 -- how a task ended, by what can be read of it
 abbrev pub ended_text : State → List ℕ

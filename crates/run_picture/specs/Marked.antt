@@ -1,5 +1,6 @@
 -- Laws of the marks of a picture, in the words of the rules.
-use Rattle.run_picture.specs.Words.{ℕ, ◌&&◌, ◌+◌, ◌<◌, ◌==◌, ◌≡◌, Bool, Cause, Closing, Event, Finished, Forking, History, Legal, Limits, Mark, Never, Opening, Reach, Shade, ShownMark, Some, Subject}
+use Rattle.std.specs.Prelude.{◌&&◌, ◌+◌, ◌<◌, ◌==◌, ◌≡◌}
+use Rattle.run_picture.specs.Words.{ℕ, Bool, Cause, Closing, Event, Finished, Forking, History, Legal, Limits, Mark, Never, Opening, Reach, Shade, ShownMark, Some, Subject}
 use Rattle.run_picture.specs.Words.{around, before, cancelled_at, cancelled_before, cause, closed, closing, cond, false, forking, is_cancelled, is_settled, opening, slice_get, stage, state, true}
 use Rattle.run_picture.specs.Words.{unwrap_or}
 use Rattle.run_picture.specs.Closings.{begins_to_close, closing_place}

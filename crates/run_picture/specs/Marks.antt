@@ -1,5 +1,6 @@
 -- The marks of a picture: what happened at an event.
-use Rattle.run_picture.specs.Words.{ℕ, ◌++◌, ◌==◌, Bool, Cause, List, Mark, ShownMark, Spot, codes, decimal, false, if◌then◌else◌, state_word, true}
+use Rattle.std.specs.Prelude.{◌++◌, ◌==◌, if◌then◌else◌}
+use Rattle.run_picture.specs.Words.{ℕ, Bool, Cause, List, Mark, ShownMark, Spot, codes, decimal, false, state_word, true}
 use Rattle.run_picture.specs.{Captions.unit_end, Captions.unit_word, MarkText.cause_text, MarkText.ended_text, MarkText.held_text, MarkText.moved_text}
 
 -- the mark of a cancel: of a normal end, or else of the scope's own, or of one that reached it

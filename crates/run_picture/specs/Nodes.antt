@@ -1,5 +1,6 @@
 -- The tasks and the scopes since the base as nodes of one tree: first the tasks by number, then the scopes.
-use Rattle.run_picture.specs.Words.{ℕ, ◌&&◌, ◌++◌, ◌+◌, ◌-◌, History, List, forked_count, forking, if◌then◌else◌, map, min, nat_le, nat_lt, opened_count, opening, option_map_or, range_with_len}
+use Rattle.std.specs.Prelude.{◌&&◌, ◌++◌, ◌+◌, ◌-◌, if◌then◌else◌}
+use Rattle.run_picture.specs.Words.{ℕ, History, List, forked_count, forking, map, min, nat_le, nat_lt, opened_count, opening, option_map_or, range_with_len}
 use Rattle.run_picture.specs.Words.{scopes, tasks}
 use Rattle.run_picture.specs.Arounds.{own_around}
 

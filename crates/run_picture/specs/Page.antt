@@ -1,6 +1,7 @@
 -- The page of a run: what stands around it, and between them its columns as text.
-use Rattle.run_picture.specs.Words.{[], ℕ, ◌++◌, ◌+◌, ◌-◌, ◌==◌, ◌∷◌, ◌≡◌, Before, Cause, CauseKind, Columns, Event, Expiry, History, List, None, Option, Options, PAGE_DRAWING, PAGE_HEAD, PAGE_MODEL}
-use Rattle.run_picture.specs.Words.{ScopeRow, Some, Stage, State, TaskRow, Value, Wanted, Words, codes, cond, get_or, if◌then◌else◌, joiner_text, length, option_map_or, slice_get, tick_of, value_text}
+use Rattle.std.specs.Prelude.{if◌then◌else◌, ◌++◌, ◌+◌, ◌-◌, ◌==◌, ◌∷◌, ◌≡◌}
+use Rattle.run_picture.specs.Words.{[], ℕ, Before, Cause, CauseKind, Columns, Event, Expiry, History, List, None, Option, Options, PAGE_DRAWING, PAGE_HEAD, PAGE_MODEL}
+use Rattle.run_picture.specs.Words.{ScopeRow, Some, Stage, State, TaskRow, Value, Wanted, Words, codes, cond, get_or, joiner_text, length, option_map_or, slice_get, tick_of, value_text}
 use Rattle.run_picture.specs.{Columns.AreColumnsOf, Digits.each_text, Digits.far, Digits.number_text, Digits.numbers_text, Digits.small_place, Digits.step, PageWords.AreWordsOf}
 
 -- what stands before index i

@@ -1,5 +1,6 @@
 -- The words of a page: names, values and faults, each in a list of words, and by task where it stands there.
-use Rattle.run_picture.specs.Words.{ℕ, ◌+◌, ◌<◌, ◌≡◌, List, None, Option, Some, State, TaskRow, Value, Wanted, Words, get_or, length, slice_get}
+use Rattle.std.specs.Prelude.{◌+◌, ◌<◌, ◌≡◌}
+use Rattle.run_picture.specs.Words.{ℕ, List, None, Option, Some, State, TaskRow, Value, Wanted, Words, get_or, length, slice_get}
 
 -- the value or the fault, if one can be read
 abbrev pub read_word : State → Option Value

@@ -1,5 +1,6 @@
 -- What a text is made of, as data: nothing, one part, or two texts one after the other.
-use Rattle.run_picture.specs.Words.{[], ℕ, ◌++◌, ◌+◌, ◌∷◌, Bool, List, cond}
+use Rattle.std.specs.Prelude.{◌++◌, ◌+◌, ◌∷◌}
+use Rattle.run_picture.specs.Words.{[], ℕ, Bool, List, cond}
 
 pub data Parts (A : Type 0) : Type 0 where
   Blank : Parts A

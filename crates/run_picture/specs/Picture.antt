@@ -1,5 +1,6 @@
 -- The picture of a run.
-use Rattle.run_picture.specs.Words.{[], ℕ, ◌++◌, ◌==◌, History, List, if◌then◌else◌, length, moment, not, option_map_or, range_with_len, scope_numbers, slice_get}
+use Rattle.std.specs.Prelude.{◌++◌, ◌==◌, if◌then◌else◌}
+use Rattle.run_picture.specs.Words.{[], ℕ, History, List, length, moment, not, option_map_or, range_with_len, scope_numbers, slice_get}
 use Rattle.run_picture.specs.{Axis.axis_text, Cancels.cancel_figures, Chart.drawn_rows, Drawing.Blank, Drawing.Both, Drawing.Drawing, Drawing.all, Drawing.shown, Events.event_figures}
 use Rattle.run_picture.specs.{Events.moment_line, Focus.focused, Frame.foot_text, Frame.head_text, Lanes.row_drawn, Sheet.Sheet, Shields.shield_figures, View.time_at, View.whole}
 

@@ -1,6 +1,7 @@
 -- The rows of a picture: a task, a scope, a closed scope with all that lies in it, or tasks of one scope that have ended.
-use Rattle.run_picture.specs.Words.{[], ℕ, ◌&&◌, ◌+◌, ◌-◌, ◌==◌, ◌||◌, ◌∷◌, Alike, Below, Bool, Class, Fold, Folded, History, List, Node, None, Option, Placed, Rest, Row, Some, State, closed, false}
-use Rattle.run_picture.specs.Words.{forked_count, forking, if◌then◌else◌, is_settled, length, map, max, min, nat_le, nat_lt, not, opened_count, option_map_or, stage, state, true}
+use Rattle.std.specs.Prelude.{if◌then◌else◌, ◌&&◌, ◌+◌, ◌-◌, ◌==◌, ◌||◌, ◌∷◌}
+use Rattle.run_picture.specs.Words.{[], ℕ, Alike, Below, Bool, Class, Fold, Folded, History, List, Node, None, Option, Placed, Rest, Row, Some, State, closed, false}
+use Rattle.run_picture.specs.Words.{forked_count, forking, is_settled, length, map, max, min, nat_le, nat_lt, not, opened_count, option_map_or, stage, state, true}
 
 -- node n: first come the tasks since the base, then the scopes
 abbrev pub node_of : History → ℕ → Option Node

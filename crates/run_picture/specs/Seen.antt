@@ -1,5 +1,6 @@
 -- Which nodes have something in view.
-use Rattle.run_picture.specs.Words.{ℕ, Bool, Forking, History, Landmark, List, Node, None, Option, Placed, Some, View, cancelled_before, false, filter, first_place, forking, if◌then◌else◌, opening}
+use Rattle.std.specs.Prelude.{if◌then◌else◌}
+use Rattle.run_picture.specs.Words.{ℕ, Bool, Forking, History, Landmark, List, Node, None, Option, Placed, Some, View, cancelled_before, false, filter, first_place, forking, opening}
 use Rattle.run_picture.specs.Words.{option_map_or}
 use Rattle.run_picture.specs.{Rows.node_of, View.meets}
 

@@ -1,5 +1,6 @@
 -- The shields of a picture: which held off a cancel, and where.
-use Rattle.run_picture.specs.Words.{ℕ, ◌&&◌, ◌+◌, Bool, Cause, Held, History, None, Opening, Option, Some, around, before, cancellation, cancelled_before, closed, if◌then◌else◌, nat_lt, not, opening}
+use Rattle.std.specs.Prelude.{◌&&◌, ◌+◌, if◌then◌else◌}
+use Rattle.run_picture.specs.Words.{ℕ, Bool, Cause, Held, History, None, Opening, Option, Some, around, before, cancellation, cancelled_before, closed, nat_lt, not, opening}
 use Rattle.run_picture.specs.Words.{option_and_then, option_map_or}
 use Rattle.run_picture.specs.{Drawing.Blank, Drawing.Drawing, Drawing.in_view, Drawing.mark, Sheet.Sheet, Sites.mark_at, Sites.scope_row, Spots.row_y}
 

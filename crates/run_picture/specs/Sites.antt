@@ -1,5 +1,6 @@
 -- Where in the picture something stands.
-use Rattle.run_picture.specs.Words.{ℕ, ◌+◌, ◌-◌, ◌==◌, Events, History, Landmark, Lines, Mark, Measure, Millis, None, Option, ShownMark, Some, Span, first_place, if◌then◌else◌, length, nat_lt, not}
+use Rattle.std.specs.Prelude.{◌+◌, ◌-◌, ◌==◌, if◌then◌else◌}
+use Rattle.run_picture.specs.Words.{ℕ, Events, History, Landmark, Lines, Mark, Measure, Millis, None, Option, ShownMark, Some, Span, first_place, length, nat_lt, not}
 use Rattle.run_picture.specs.Words.{option_map, option_map_or, slice_get}
 use Rattle.run_picture.specs.{Chart.drawn_rows, Chart.row_of, Focus.column_of, Nodes.node_count, Nodes.scope_node, Sheet.Sheet, View.time_at, View.x_at}
 

@@ -1,5 +1,6 @@
 -- The records of a trace: a line of JSON each, behind the one before.
-use Rattle.run_picture.specs.Words.{ℕ, ◌++◌, Arrow, Bool, Cause, Instant, List, None, Option, Point, Rejected, ScopeSlice, Some, Started, State, Still, Stretch, TaskSlice, Track, Wait, WaitSlice}
+use Rattle.std.specs.Prelude.{◌++◌}
+use Rattle.run_picture.specs.Words.{ℕ, Arrow, Bool, Cause, Instant, List, None, Option, Point, Rejected, ScopeSlice, Some, Started, State, Still, Stretch, TaskSlice, Track, Wait, WaitSlice}
 use Rattle.run_picture.specs.Words.{codes, decimal, false, joiner_text, kind_word, options_text, state_word, text_of, true}
 
 -- the name of a task's track

@@ -1,5 +1,6 @@
 -- Where things stand in a picture.
-use Rattle.run_picture.specs.Words.{ℕ, ◌*◌, ◌+◌}
+use Rattle.std.specs.Prelude.{◌*◌, ◌+◌}
+use Rattle.run_picture.specs.Words.{ℕ}
 
 -- a row's middle, from above
 abbrev pub row_y : ℕ → ℕ

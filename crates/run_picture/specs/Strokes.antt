@@ -1,5 +1,6 @@
 -- The lines of a picture.
-use Rattle.run_picture.specs.Words.{[], ℕ, ◌++◌, Bar, List, Reach, Shade, Tick, codes, decimal, if◌then◌else◌}
+use Rattle.std.specs.Prelude.{◌++◌, if◌then◌else◌}
+use Rattle.run_picture.specs.Words.{[], ℕ, Bar, List, Reach, Shade, Tick, codes, decimal}
 use Rattle.run_picture.specs.Captions.{title_text}
 
 -- what a bar shows, as the class of its line

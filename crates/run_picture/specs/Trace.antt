@@ -1,7 +1,8 @@
 -- The run as Chrome trace events, as JSON.
-use Rattle.run_picture.specs.Words.{ℕ, ◌*◌, ◌++◌, ◌-◌, ◌==◌, ◌≡◌, Arrow, Bool, Cause, Course, Forking, HasFirsts, History, Instant, Landmark, List, None, Opening, Option, Point, Rejected, ScopeSlice}
+use Rattle.std.specs.Prelude.{if◌then◌else◌, ◌*◌, ◌++◌, ◌-◌, ◌==◌, ◌≡◌}
+use Rattle.run_picture.specs.Words.{ℕ, Arrow, Bool, Cause, Course, Forking, HasFirsts, History, Instant, Landmark, List, None, Opening, Option, Point, Rejected, ScopeSlice}
 use Rattle.run_picture.specs.Words.{Some, Started, State, Still, Stretch, TaskSlice, Traced, Track, Wait, WaitSlice, cancellation, cancelled_before, codes, false, first_place, forked_count, forking}
-use Rattle.run_picture.specs.Words.{if◌then◌else◌, is_some, length, min, not, opened_count, opening, option_map, option_map_or, option_or, scope_numbers, state, task_numbers, true, unwrap_or}
+use Rattle.run_picture.specs.Words.{is_some, length, min, not, opened_count, opening, option_map, option_map_or, option_or, scope_numbers, state, task_numbers, true, unwrap_or}
 use Rattle.run_picture.specs.Slices.{arrow_text, closing_text, instant_text, never_text, scope_text, task_text, track_text, wait_text}
 use Rattle.run_picture.specs.{Arounds.IsNestOf, Closings.AreClosings, Closings.begins_to_close, Parts.Blank, Parts.Both, Parts.One, Parts.Parts, Parts.all, Parts.written, View.time_at}
 

@@ -1,5 +1,6 @@
 -- Laws of traces, in the words of the rules.
-use Rattle.run_picture.specs.Words.{ℕ, ◌-◌, ◌==◌, ◌||◌, ◌≡◌, Arrow, Bool, Cause, Event, Forking, History, Instant, Legal, Limits, List, None, Opening, Option, Point, Rejected, ScopeSlice, Some}
+use Rattle.std.specs.Prelude.{◌-◌, ◌==◌, ◌||◌, ◌≡◌}
+use Rattle.run_picture.specs.Words.{ℕ, Arrow, Bool, Cause, Event, Forking, History, Instant, Legal, Limits, List, None, Opening, Option, Point, Rejected, ScopeSlice, Some}
 use Rattle.run_picture.specs.Words.{Started, State, Still, Stretch, TaskSlice, Track, Wait, WaitSlice, cancelled_before, closed, closing, cond, ends, false, finished, finishes, forking, is_cancelled}
 use Rattle.run_picture.specs.Words.{length, opening, rejected, rejects, slice_get, started, starts, state, true}
 use Rattle.run_picture.specs.Trace.{AClosing, ANever, AScope, ATask, ATrack, AWait, AnArrow, AnInstant, Record, micros, records}

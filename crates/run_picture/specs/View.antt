@@ -1,5 +1,6 @@
 -- How large a picture is, and how far from the left its events stand.
-use Rattle.run_picture.specs.Words.{[], ℕ, ◌&&◌, ◌*◌, ◌+◌, ◌-◌, ◌/◌, ◌∷◌, Bool, List, None, Option, View, get_or, length, max, min, nat_le, option_map_or, true}
+use Rattle.std.specs.Prelude.{◌&&◌, ◌*◌, ◌+◌, ◌-◌, ◌/◌, ◌∷◌}
+use Rattle.run_picture.specs.Words.{[], ℕ, Bool, List, None, Option, View, get_or, length, max, min, nat_le, option_map_or, true}
 
 -- the whole run, on a page 1,200 pixels wide
 abbrev pub whole : View

@@ -2,7 +2,8 @@
 //! what was. So the scopes are gone through by number: of what an actor opened before, the search begins at the
 //! latest, and goes on from a closed one to what was the innermost as that one was opened. It takes as many steps as
 //! scopes lay around one another, and no event is looked at.
-ghost use Rattle.run_picture.specs.{ℕ, ◌+◌, ◌≡◌, ◌≤◌, AreLasts, AreOwns, HasFirsts, HasOwns, IfOk, IsNestOf, IsSearched, Landmark, OnOk, Some, around, before, closed, forked_in, innermost, is_some};
+ghost use Rattle.std.specs.Prelude.{◌+◌, ◌≡◌, ◌≤◌};
+ghost use Rattle.run_picture.specs.{ℕ, AreLasts, AreOwns, HasFirsts, HasOwns, IfOk, IsNestOf, IsSearched, Landmark, OnOk, Some, around, before, closed, forked_in, innermost, is_some};
 ghost use Rattle.run_picture.specs.{length, nat_eq, opened_count, opening, own_around, true};
 ghost use Rattle.std.specs.HashMap as hash;
 

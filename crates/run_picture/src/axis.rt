@@ -1,5 +1,6 @@
 //! The axis of a picture with times: a line at each of some round ones, and the time at its foot.
-ghost use Rattle.run_picture.specs.{◌++◌, ◌<◌, ◌≡◌, ◌≤◌, IsChartOf, OnOk, Some, all, axis_line, axis_mark, axis_text, mark_by, mark_in, mark_time, power_of, range_with_len, sheet_of, step_by};
+ghost use Rattle.std.specs.Prelude.{◌++◌, ◌<◌, ◌≡◌, ◌≤◌};
+ghost use Rattle.run_picture.specs.{IsChartOf, OnOk, Some, all, axis_line, axis_mark, axis_text, mark_by, mark_in, mark_time, power_of, range_with_len, sheet_of, step_by};
 ghost use Rattle.run_picture.specs.{step_of, string_bytes, written};
 
 use crate::chart::Chart;

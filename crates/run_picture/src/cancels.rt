@@ -1,5 +1,6 @@
 //! Which scope became cancelled where, and by whose own cancel.
-ghost use Rattle.run_picture.specs.{◌++◌, ◌≡◌, IsChartOf, OnOk, Some, cancel_drawn, cancel_figures, cancellation, cancelled_before, fails_by, is_accident, joined_by, sheet_of, shown, source_y};
+ghost use Rattle.std.specs.Prelude.{◌++◌, ◌≡◌};
+ghost use Rattle.run_picture.specs.{IsChartOf, OnOk, Some, cancel_drawn, cancel_figures, cancellation, cancelled_before, fails_by, is_accident, joined_by, sheet_of, shown, source_y};
 ghost use Rattle.run_picture.specs.{string_bytes};
 
 use crate::chart::Chart;

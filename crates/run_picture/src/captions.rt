@@ -1,5 +1,6 @@
 //! What a row and a bar are called.
-ghost use Rattle.run_picture.specs.{◌≡◌, Some, fate_text, folded_text, fork_text, label_class, label_text, lasting_text, opener_text, span_end, span_text, subject_text, title_text, titled_text};
+ghost use Rattle.std.specs.Prelude.{◌≡◌};
+ghost use Rattle.run_picture.specs.{Some, fate_text, folded_text, fork_text, label_class, label_text, lasting_text, opener_text, span_end, span_text, subject_text, title_text, titled_text};
 ghost use Rattle.run_picture.specs.{unended_text, unit_end, unit_word};
 ghost use Rattle.run_picture.specs.Captions.{scope_text};
 

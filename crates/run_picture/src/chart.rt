@@ -1,5 +1,6 @@
 //! What is kept of a run while it is drawn: where something happened first, and the rows.
-ghost use Rattle.run_picture.specs.{ℕ, ◌++◌, ◌<◌, ◌^◌, ◌≡◌, AreShown, IfOk, IsChartOf, IsNestOf, None, OnOk, chosen_rows, focused, focused_view, get_or, length, node_count, one_with_all, placed_rows};
+ghost use Rattle.std.specs.Prelude.{◌++◌, ◌<◌, ◌^◌, ◌≡◌};
+ghost use Rattle.run_picture.specs.{ℕ, AreShown, IfOk, IsChartOf, IsNestOf, None, OnOk, chosen_rows, focused, focused_view, get_or, length, node_count, one_with_all, placed_rows};
 ghost use Rattle.run_picture.specs.{sheet_of, shown_in};
 
 use crate::arounds::{Nest, nest_of};

@@ -1,6 +1,7 @@
 //! Where scopes begin to close: by a close of their own, or by one of a scope around that covers them. The scopes are
 //! gone through by number, so that what lies around a scope is known before.
-ghost use Rattle.run_picture.specs.{◌+◌, ◌<◌, ◌≡◌, AreClosings, HasFirsts, IfOk, IsNestOf, Landmark, begins_to_close, first_place, is_some, length, opened_count, opening, own_around, sooner, true};
+ghost use Rattle.std.specs.Prelude.{◌+◌, ◌<◌, ◌≡◌};
+ghost use Rattle.run_picture.specs.{AreClosings, HasFirsts, IfOk, IsNestOf, Landmark, begins_to_close, first_place, is_some, length, opened_count, opening, own_around, sooner, true};
 
 use crate::arounds::Nest;
 use run_times::landmarks::Firsts;

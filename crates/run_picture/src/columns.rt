@@ -1,6 +1,7 @@
 //! The columns of a run, which its page reads: a row for each task and for each scope since the last retirement, by
 //! number. A row says where things happened, as places of events, so that the page compares numbers and knows no rule.
-ghost use Rattle.run_picture.specs.{◌≡◌, AreColumnsOf, ArePlacesOf, AreScopeRows, AreTaskRows, IfOk, IsScopeRow, IsTaskRow, Landmark, Some, first_place, forked_count, forking, is_some, opened_count};
+ghost use Rattle.std.specs.Prelude.{◌≡◌};
+ghost use Rattle.run_picture.specs.{AreColumnsOf, ArePlacesOf, AreScopeRows, AreTaskRows, IfOk, IsScopeRow, IsTaskRow, Landmark, Some, first_place, forked_count, forking, is_some, opened_count};
 ghost use Rattle.run_picture.specs.{opening, true};
 
 use crate::arounds::{Nest, around, nest_of};

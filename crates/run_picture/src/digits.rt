@@ -1,5 +1,6 @@
 //! How a page writes numbers: in digits of 32, the lowest first, in characters that mean nothing to HTML.
-ghost use Rattle.run_picture.specs.{◌++◌, ◌≡◌, OnOk, far, number_text, numbers_text, small_place, step, string_bytes};
+ghost use Rattle.std.specs.Prelude.{◌++◌, ◌≡◌};
+ghost use Rattle.run_picture.specs.{OnOk, far, number_text, numbers_text, small_place, step, string_bytes};
 
 use std::alloc::AllocError;
 

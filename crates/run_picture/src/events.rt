@@ -1,5 +1,6 @@
 //! What an event draws in the row of the scope that it names.
-ghost use Rattle.run_picture.specs.{◌++◌, ◌≡◌, IsChartOf, OnOk, Some, drawn, event_figures, event_mark, event_scope, marked, moment_line, sheet_of, shown, string_bytes, tick_of};
+ghost use Rattle.std.specs.Prelude.{◌++◌, ◌≡◌};
+ghost use Rattle.run_picture.specs.{IsChartOf, OnOk, Some, drawn, event_figures, event_mark, event_scope, marked, moment_line, sheet_of, shown, string_bytes, tick_of};
 
 use crate::chart::Chart;
 use crate::marks::Mark;

@@ -1,5 +1,6 @@
 //! Nodes in the order of the tree that they form: a node, what lies below it, and then its next sibling.
-ghost use Rattle.run_picture.specs.{◌++◌, ◌+◌, ◌<◌, ◌^◌, ◌≡◌, AreKeys, IfOk, IsForestOf, IsNothings, None, OnOk, get_or, rows_from};
+ghost use Rattle.std.specs.Prelude.{◌++◌, ◌+◌, ◌<◌, ◌^◌, ◌≡◌};
+ghost use Rattle.run_picture.specs.{AreKeys, IfOk, IsForestOf, IsNothings, None, OnOk, get_or, rows_from};
 
 use std::alloc::{AllocError, Global};
 

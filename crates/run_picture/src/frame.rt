@@ -1,5 +1,6 @@
 //! What stands around the rows: the picture's head and its foot.
-ghost use Rattle.run_picture.specs.{◌≡◌, Some, axis_word, foot_text, head_text, legend_begin, name_text, opened_text, prepared_text, size_text, tall, until_word, view_text};
+ghost use Rattle.std.specs.Prelude.{◌≡◌};
+ghost use Rattle.run_picture.specs.{Some, axis_word, foot_text, head_text, legend_begin, name_text, opened_text, prepared_text, size_text, tall, until_word, view_text};
 ghost use Rattle.run_picture.specs.Frame.{axis_text};
 
 use crate::pieces::{

@@ -1,5 +1,6 @@
 //! What a row draws: a task, a scope, or a closed scope with all that lies in it.
-ghost use Rattle.run_picture.specs.{◌++◌, ◌-◌, ◌<◌, ◌≡◌, IsChartOf, OnOk, Some, band, band_shade, bar_in, cancelled_bar, closing_bar, end_figure, end_mark, end_shade, folded_lane, folded_shade};
+ghost use Rattle.std.specs.Prelude.{◌++◌, ◌-◌, ◌<◌, ◌≡◌};
+ghost use Rattle.run_picture.specs.{IsChartOf, OnOk, Some, band, band_shade, bar_in, cancelled_bar, closing_bar, end_figure, end_mark, end_shade, folded_lane, folded_shade};
 ghost use Rattle.run_picture.specs.{fork_drawn, fork_of, forked_lane, forking, is_some, label_in, life_drawn, opened_lane, opening, row_drawn, running_bar, running_fate, running_shade, scope_lane};
 ghost use Rattle.run_picture.specs.{scope_of, sheet_of, shown, state, string_bytes, task_fate, task_lane, true};
 

@@ -1,5 +1,6 @@
 //! The marks of a picture.
-ghost use Rattle.run_picture.specs.{◌≡◌, Some, at_text, cancel_word, cause_text, ended_text, held_text, mark_text, mark_word, moved_text, note_text, note_title};
+ghost use Rattle.std.specs.Prelude.{◌≡◌};
+ghost use Rattle.run_picture.specs.{Some, at_text, cancel_word, cause_text, ended_text, held_text, mark_text, mark_word, moved_text, note_text, note_title};
 
 use crate::captions::{Measure, unit_end, unit_word};
 use crate::spots::Spot;

@@ -1,6 +1,7 @@
 //! The tasks and the scopes since the base as nodes of one tree: first the tasks by number, then the scopes. Below a
 //! scope lie its tasks, and the scopes that its owner opened in it; below a task, those that it opened itself.
-ghost use Rattle.run_picture.specs.{◌+◌, ◌<◌, ◌^◌, ◌≡◌, AreKeys, IfOk, IfSome, IsNestOf, forked_count, is_some, keys, length, node_count, opened_count, opening, scope_key, scope_node, task_key};
+ghost use Rattle.std.specs.Prelude.{◌+◌, ◌<◌, ◌^◌, ◌≡◌};
+ghost use Rattle.run_picture.specs.{AreKeys, IfOk, IfSome, IsNestOf, forked_count, is_some, keys, length, node_count, opened_count, opening, scope_key, scope_node, task_key};
 ghost use Rattle.run_picture.specs.{task_node};
 
 use crate::arounds::{Nest, own_of};

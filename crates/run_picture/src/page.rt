@@ -2,7 +2,8 @@
 //!
 //! Names, values, joiners and numbers are all that it takes from a run, and none of them has a character that means
 //! anything to HTML: nothing is left to be escaped.
-ghost use Rattle.run_picture.specs.{◌++◌, ◌+◌, ◌<◌, ◌^◌, ◌≡◌, ◌≤◌, IfOk, IsPageOf, OnOk, columns_text, events_text, head_numbers, joiner_at, joiners_text, length, lines_text, rows_text, scopes_text};
+ghost use Rattle.std.specs.Prelude.{◌++◌, ◌+◌, ◌<◌, ◌^◌, ◌≡◌, ◌≤◌};
+ghost use Rattle.run_picture.specs.{IfOk, IsPageOf, OnOk, columns_text, events_text, head_numbers, joiner_at, joiners_text, length, lines_text, rows_text, scopes_text};
 ghost use Rattle.run_picture.specs.{string_bytes, tasks_text, times_text, word_at, words_text};
 
 use crate::columns::{Columns, ScopeRow, TaskRow, columns_of};

@@ -1,5 +1,6 @@
 //! The rows of a page as numbers: what stands in a row, by the row before it.
-ghost use Rattle.run_picture.specs.{◌++◌, ◌+◌, ◌<◌, ◌^◌, ◌≡◌, OnOk, cancelled_far, cause_number, event_text, get_or, how, made_by, moved, moved_numbers, nothing_before, one_before, option_map_or};
+ghost use Rattle.std.specs.Prelude.{◌++◌, ◌+◌, ◌<◌, ◌^◌, ◌≡◌};
+ghost use Rattle.run_picture.specs.{OnOk, cancelled_far, cause_number, event_text, get_or, how, made_by, moved, moved_numbers, nothing_before, one_before, option_map_or};
 ghost use Rattle.run_picture.specs.{options_number, scope_before, scope_text, source_back, string_bytes, task_before, task_text, tick_of, time_text};
 ghost use Rattle.run_picture.specs.Page.{scope_numbers, task_numbers};
 

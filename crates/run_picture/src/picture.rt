@@ -1,5 +1,6 @@
 //! The picture.
-ghost use Rattle.run_picture.specs.{◌++◌, ◌≡◌, IfOk, IsChartOf, OnOk, all, axis_text, cancel_figures, drawn_rows, drawn_text, event_figures, figures, foot_text, indexes, length, moment_line, now_in};
+ghost use Rattle.std.specs.Prelude.{◌++◌, ◌≡◌};
+ghost use Rattle.run_picture.specs.{IfOk, IsChartOf, OnOk, all, axis_text, cancel_figures, drawn_rows, drawn_text, event_figures, figures, foot_text, indexes, length, moment_line, now_in};
 ghost use Rattle.run_picture.specs.{picture_text, places, row_at, scope_numbers, sheet_of, shield_figures, shown, string_bytes};
 
 use crate::axis::append_axis;

@@ -1,5 +1,6 @@
 //! The texts that every picture has: its style, its shapes and its legend.
-ghost use Rattle.run_picture.specs.{◌≡◌, cancel_legend, dark, end_shapes, light, line_legend, mark_legend, scope_shapes, svg_begin};
+ghost use Rattle.std.specs.Prelude.{◌≡◌};
+ghost use Rattle.run_picture.specs.{cancel_legend, dark, end_shapes, light, line_legend, mark_legend, scope_shapes, svg_begin};
 
 /// How a picture begins, before its size.
 #[tactic(auto, unfolding(crate::specs::Pieces::svg_begin))]

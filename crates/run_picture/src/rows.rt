@@ -1,5 +1,6 @@
 //! The rows of a picture: a task, a scope, a closed scope with all that lies in it, or tasks of one scope that have ended.
-ghost use Rattle.run_picture.specs.{[], ◌<◌, ◌≡◌, IfOk, OnOk, begun, begun_with, class_of, counted, fits, folded_from, folded_in, has_ended, has_failed, is_done, is_ended_as, is_failed, is_settled};
+ghost use Rattle.std.specs.Prelude.{◌<◌, ◌≡◌};
+ghost use Rattle.run_picture.specs.{[], IfOk, OnOk, begun, begun_with, class_of, counted, fits, folded_from, folded_in, has_ended, has_failed, is_done, is_ended_as, is_failed, is_settled};
 ghost use Rattle.run_picture.specs.{is_task, length, map, more_if, node_of, plain, rows_of, taken_in};
 
 use crate::forest::Placed;

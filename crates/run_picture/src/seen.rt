@@ -1,5 +1,6 @@
 //! Which nodes have something in view.
-ghost use Rattle.run_picture.specs.{◌≡◌, HasFirsts, IfOk, IsNestOf, Landmark, Some, forked_count, forking, is_seen, scope_seen, seen_rows, task_end, task_seen};
+ghost use Rattle.std.specs.Prelude.{◌≡◌};
+ghost use Rattle.run_picture.specs.{HasFirsts, IfOk, IsNestOf, Landmark, Some, forked_count, forking, is_seen, scope_seen, seen_rows, task_end, task_seen};
 
 use crate::arounds::Nest;
 use crate::cancels::is_cancelled_before;

@@ -1,5 +1,6 @@
 //! Which shields held off a cancel, and where.
-ghost use Rattle.run_picture.specs.{◌++◌, ◌+◌, ◌<◌, ◌≡◌, IsChartOf, OnOk, Some, goes_on, held_mark, held_off, length, opened_shield, opening, sheet_of, shield_figures, shown, string_bytes};
+ghost use Rattle.std.specs.Prelude.{◌++◌, ◌+◌, ◌<◌, ◌≡◌};
+ghost use Rattle.run_picture.specs.{IsChartOf, OnOk, Some, goes_on, held_mark, held_off, length, opened_shield, opening, sheet_of, shield_figures, shown, string_bytes};
 
 use crate::arounds::{around, closed_before};
 use crate::cancels::is_cancelled_before;

@@ -1,5 +1,6 @@
 //! Where in the chart something stands.
-ghost use Rattle.run_picture.specs.{◌≡◌, IsChartOf, Landmark, begins_to_close, closed_place, end_x, first_place, forking, is_some, lasting_in, mark_at, measure_in, number_in, opening, scope_row};
+ghost use Rattle.std.specs.Prelude.{◌≡◌};
+ghost use Rattle.run_picture.specs.{IsChartOf, Landmark, begins_to_close, closed_place, end_x, first_place, forking, is_some, lasting_in, mark_at, measure_in, number_in, opening, scope_row};
 ghost use Rattle.run_picture.specs.{sheet_of, span_in, true, x_in};
 
 use crate::captions::{Measure, Span};

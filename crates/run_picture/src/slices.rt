@@ -1,5 +1,6 @@
 //! The records of a trace.
-ghost use Rattle.run_picture.specs.{◌≡◌, Some, arrow_head, arrow_tail, arrow_text, cause_args, closed_args, closing_text, instant_text, never_text, point_text, result_text, stretch_text, told_text};
+ghost use Rattle.std.specs.Prelude.{◌≡◌};
+ghost use Rattle.run_picture.specs.{Some, arrow_head, arrow_tail, arrow_text, cause_args, closed_args, closing_text, instant_text, never_text, point_text, result_text, stretch_text, told_text};
 ghost use Rattle.run_picture.specs.{track_head, track_text, wait_text, wait_word};
 ghost use Rattle.run_picture.specs.Slices.{scope_text, task_text};
 

@@ -1,5 +1,6 @@
 //! Where things stand in a picture.
-ghost use Rattle.run_picture.specs.{◌≡◌, row_y};
+ghost use Rattle.std.specs.Prelude.{◌≡◌};
+ghost use Rattle.run_picture.specs.{row_y};
 
 /// A point of the picture: so far from the left, and from above.
 #[derive(Clone, Copy)]

@@ -1,5 +1,6 @@
 //! The lines of a picture.
-ghost use Rattle.run_picture.specs.{◌≡◌, Some, bar_line, bar_text, reach_text, shade_word, tick_text, tick_title};
+ghost use Rattle.std.specs.Prelude.{◌≡◌};
+ghost use Rattle.run_picture.specs.{Some, bar_line, bar_text, reach_text, shade_word, tick_text, tick_title};
 
 use crate::captions::Title;
 use std::fmt;

@@ -1,5 +1,6 @@
 //! The run as Chrome trace events, as JSON.
-ghost use Rattle.run_picture.specs.{◌++◌, ◌≡◌, History, IfOk, IsCourseOf, IsTracedOf, OnOk, Some, all, arrow_from, beginning, cancel_records, closing_from, foot, forked_records, forking, head};
+ghost use Rattle.std.specs.Prelude.{◌++◌, ◌≡◌};
+ghost use Rattle.run_picture.specs.{History, IfOk, IsCourseOf, IsTracedOf, OnOk, Some, all, arrow_from, beginning, cancel_records, closing_from, foot, forked_records, forking, head};
 ghost use Rattle.run_picture.specs.{micros, opening, reached_from, realm_name, record_text, result_in, scope_numbers, scope_records, stretch_in, string_bytes, task_from, task_numbers, task_records};
 ghost use Rattle.run_picture.specs.{trace_text, wait_by, written};
 

@@ -1,5 +1,6 @@
 //! What of a run is drawn, and how large.
-ghost use Rattle.run_picture.specs.{◌<◌, ◌≡◌, ◌≤◌, column_of, first_time, high, meets, natural_width, page_width, shows, span_time, time_at, whole, x_at, x_by};
+ghost use Rattle.std.specs.Prelude.{◌<◌, ◌≡◌, ◌≤◌};
+ghost use Rattle.run_picture.specs.{column_of, first_time, high, meets, natural_width, page_width, shows, span_time, time_at, whole, x_at, x_by};
 
 use scope_rules::ScopeId;
 

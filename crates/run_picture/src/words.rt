@@ -1,6 +1,7 @@
 //! The words of a page: names, values and faults, each in a list of words, and by task where it stands there. A word is
 //! looked for among the last ones alone, so that its search takes as long in a large run as in a small one.
-ghost use Rattle.run_picture.specs.{ℕ, ◌<◌, ◌≡◌, AreWordsOf, Finds, IfOk, IfSome, OnOk, Some, Value, length, read_word, slice_get, word_of};
+ghost use Rattle.std.specs.Prelude.{◌<◌, ◌≡◌};
+ghost use Rattle.run_picture.specs.{ℕ, AreWordsOf, Finds, IfOk, IfSome, OnOk, Some, Value, length, read_word, slice_get, word_of};
 
 use crate::columns::TaskRow;
 use scope_rules::{State, Value};

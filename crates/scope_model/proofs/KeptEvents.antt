@@ -1,7 +1,8 @@
 -- The events that the plain evaluator keeps stay the history's.
-use Rattle.scope_model.specs.{[], ℕ, ◌++◌, ◌+◌, ◌<◌, ◌≡◌, ◌≤◌, Accepts, AnswersOrMemory, AreEventsOf, Checked, Event, Words.History, JournalTable, Words.Legal, Limits, List, Ok, Words.Origin, Realm}
+use Rattle.std.specs.Prelude.{◌++◌, ◌+◌, ◌<◌, ◌∷◌, ◌≡◌, ◌≤◌}
+use Rattle.scope_model.specs.{[], ℕ, Accepts, AnswersOrMemory, AreEventsOf, Checked, Event, Words.History, JournalTable, Words.Legal, Limits, List, Ok, Words.Origin, Realm}
 use Rattle.scope_model.specs.{Refusal, base_check, base_of, length, load, realm_given, starting, weight, with_event}
-use Rattle.scope_model.proofs.Words.{◌∙◌, ◌∷◌, Err, Result, ap, arith, event_paid, inl, inr, load_push, stack_within, subst, sym}
+use Rattle.scope_model.proofs.Words.{◌∙◌, Err, Result, ap, arith, event_paid, inl, inr, load_push, stack_within, subst, sym}
 
 base_load : (b : Origin) → load (record { base = b; events = [] }) ≡ length b.binds
 unfolding load

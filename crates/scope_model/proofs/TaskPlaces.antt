@@ -1,6 +1,7 @@
 -- The numbers of a range that pass a test, by their places among those that do.
-use Rattle.scope_model.specs.{[], ℕ, ◌++◌, ◌+◌, ◌<◌, ◌≡◌, ◌≤◌, List, None, Some, filter, length, range_with_len, slice_get}
-use Rattle.scope_model.proofs.Words.{◌-◌, ◌∙◌, ◌∷◌, Bool, ap, append-nil, arith, cond, false, filter-append, get_push, length-append, range_push, refl, slice_get_past, slice_get_within, suc, sym}
+use Rattle.std.specs.Prelude.{◌++◌, ◌+◌, ◌-◌, ◌<◌, ◌∷◌, ◌≡◌, ◌≤◌}
+use Rattle.scope_model.specs.{[], ℕ, List, None, Some, filter, length, range_with_len, slice_get}
+use Rattle.scope_model.proofs.Words.{◌∙◌, Bool, ap, append-nil, arith, cond, false, filter-append, get_push, length-append, range_push, refl, slice_get_past, slice_get_within, suc, sym}
 use Rattle.scope_model.proofs.Words.{true, zero}
 
 -- one number more passes, or doesn't

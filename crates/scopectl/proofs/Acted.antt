@@ -1,5 +1,6 @@
 -- What the program did, by what a call of it did.
-use Rattle.scopectl.specs.{ℕ, ◌≡◌, Acts, Answers, CommandLine, Err, IsNotUnderstood, IsRead, IsSaid, LineFault, List, Memory, Ok, Result, Run, Says, line_of}
+use Rattle.std.specs.Prelude.{◌≡◌}
+use Rattle.scopectl.specs.{ℕ, Acts, Answers, CommandLine, Err, IsNotUnderstood, IsRead, IsSaid, LineFault, List, Memory, Ok, Result, Run, Says, line_of}
 use Rattle.scopectl.proofs.Words.{arith, inl, inr, subst}
 
 -- ---- what was read of the words

@@ -1,5 +1,6 @@
 -- What was read and written makes what a job did.
-use Rattle.scopectl.specs.{[], ℕ, ◌≡◌, ◌≢◌, ◌≤◌, Appends, AppendsPart, Bool, CameFrom, CommandLine, Count, DidPart, DidReplay, DidWhole, EitherBy, Err, FailedAtEnd, IsSaid, List, Made, Makes}
+use Rattle.std.specs.Prelude.{◌≡◌, ◌≢◌, ◌≤◌}
+use Rattle.scopectl.specs.{[], ℕ, Appends, AppendsPart, Bool, CameFrom, CommandLine, Count, DidPart, DidReplay, DidWhole, EitherBy, Err, FailedAtEnd, IsSaid, List, Made, Makes}
 use Rattle.scopectl.specs.{NamesFault, None, Noted, NotedFault, NotedPartly, Notes, OfNotes, Ok, Option, Paged, ProgramFault, ReadSome, Refusals, Replayed, ReplayedNoted, ReplayedPartly, Replies}
 use Rattle.scopectl.specs.{Result, Run, RunsPartly, ScriptFault, ScriptOptions, Showed, ShowedNoted, Some, ToldNotes, Turn, ViewOptions, WroteLate, count_text, false, fault_of_noted, fault_of_run}
 use Rattle.scopectl.specs.{is_silent, noted_text, notes_on, notes_text, notes_wanted, status_of, true, view_of}

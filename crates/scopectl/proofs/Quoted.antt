@@ -1,5 +1,6 @@
 -- Why a plan that was read has no answer.
-use Rattle.scopectl.specs.{ℕ, ◌++◌, ◌+◌, ◌<◌, ◌||◌, ◌≡◌, ◌≤◌, ◌⊎◌, AllowedText, AllowedTextBy, Answer, Bool, CameFrom, Consumes, Delay, Err, GatewayFault, IfOk, IsAtEnd, IsBadLine, IsOfPlan, List}
+use Rattle.std.specs.Prelude.{◌++◌, ◌+◌, ◌<◌, ◌||◌, ◌≡◌, ◌≤◌, ◌⊎◌}
+use Rattle.scopectl.specs.{ℕ, AllowedText, AllowedTextBy, Answer, Bool, CameFrom, Consumes, Delay, Err, GatewayFault, IfOk, IsAtEnd, IsBadLine, IsOfPlan, List}
 use Rattle.scopectl.specs.{MayEndPlan, NamesLine, None, Ok, OnErr, Option, PartText, PlanFault, PlanValue, ProgramFault, ReadPlan, Result, Some, answer_text, drop, false, fault_of_plan}
 use Rattle.scopectl.specs.{fault_of_service, has_late, is_some, is_timed, length, list_any, nat_lt, not, true}
 use Rattle.scopectl.proofs.Words.{Consumes-trans, add-one, ap, append-nil, arith, drop-cons, drop_all, get_or_from_slice_get, inl, inr, refl, slice_get, slice_get-get_or, slice_get_within, subst, sym}

@@ -1,5 +1,6 @@
 -- All that is promised of a run of the program: of its status, and of what it did with its streams.
-use Rattle.scopectl.specs.Words.{ℕ, ◌≡◌, ◌≢◌, ◌≤◌, ◌⊎◌, List}
+use Rattle.std.specs.Prelude.{◌≡◌, ◌≢◌, ◌≤◌, ◌⊎◌}
+use Rattle.scopectl.specs.Words.{ℕ, List}
 use Rattle.scopectl.specs.{Naming.NamesAny, Program.DidAsSaid, Program.DidPartly, Program.GaveText, Program.GaveTextPartly, Program.IsNotUnderstood, Runs.Run, Saying.SaidSome}
 
 -- the text that the words ask for was written, and nothing read or said; or all that they say was done

@@ -1,5 +1,6 @@
 -- What a fault that is named on standard error says of the streams and of the plan.
-use Rattle.scopectl.specs.Words.{ℕ, ⊤, ◌++◌, ◌||◌, ◌≡◌, ◌⊎◌, AppendsPart, Bool, CommandLine, Consumes, Delay, IsAtEnd, List, NamesLine, Notes, Option, PlanFault, PlanValue, PlanWhy, ProgramFault}
+use Rattle.std.specs.Prelude.{◌++◌, ◌||◌, ◌≡◌, ◌⊎◌}
+use Rattle.scopectl.specs.Words.{ℕ, ⊤, AppendsPart, Bool, CommandLine, Consumes, Delay, IsAtEnd, List, NamesLine, Notes, Option, PlanFault, PlanValue, PlanWhy, ProgramFault}
 use Rattle.scopectl.specs.Words.{Says, ScriptOptions, Some, Watched, false, is_some, length, nat_lt, not, true}
 use Rattle.scopectl.specs.{Program.ReadPlan, Program.has_late, Program.notes_on, Program.notes_wanted, Runs.HasEnded, Runs.Run, Saying.IsSaid, Texts.line_of}
 

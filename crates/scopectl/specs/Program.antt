@@ -1,5 +1,6 @@
 -- What the program has done.
-use Rattle.scopectl.specs.Words.{[], ℕ, ◌&&◌, ◌++◌, ◌-◌, ◌∷◌, ◌≡◌, ◌⊎◌, AllowedText, Answers, Appends, AppendsPart, AsksFor, Between, Bool, CommandLine, Consumes, Count, Delay, DumpFormat, Err}
+use Rattle.std.specs.Prelude.{◌&&◌, ◌++◌, ◌-◌, ◌∷◌, ◌≡◌, ◌⊎◌}
+use Rattle.scopectl.specs.Words.{[], ℕ, AllowedText, Answers, Appends, AppendsPart, AsksFor, Between, Bool, CommandLine, Consumes, Count, Delay, DumpFormat, Err}
 use Rattle.scopectl.specs.Words.{IsAtEnd, IsNoRequest, IsPageOf, IsScript, LEVEL_LIMIT, Limits, LineFault, List, Name, None, Notes, Ok, Option, PartText, PictureOptions, PlanValue, Result, SayPlan}
 use Rattle.scopectl.specs.Words.{Says, SaysNone, ScriptOptions, Some, TreeOptions, TreePart, View, ViewOptions, count_of_script, false, lines_of, list_any, no_refusals, notes_text, realm_of_script}
 use Rattle.scopectl.specs.Words.{replies_of, same_name, shown_text, stamps_of_script, true, unwrap_or, whole}

@@ -1,5 +1,6 @@
 -- What is said on standard error.
-use Rattle.scopectl.specs.Words.{[], ℕ, ◌++◌, ◌==◌, ◌||◌, ◌∷◌, ◌≡◌, ◌⊎◌, Appends, AppendsPart, Bool, Count, List, Option, Tally, codes, decimal, false, if◌then◌else◌, true}
+use Rattle.std.specs.Prelude.{◌++◌, ◌==◌, ◌||◌, ◌∷◌, ◌≡◌, ◌⊎◌, if◌then◌else◌}
+use Rattle.scopectl.specs.Words.{[], ℕ, Appends, AppendsPart, Bool, Count, List, Option, Tally, codes, decimal, false, true}
 
 -- the stream took the whole text, or failed and took a beginning of it
 abbrev pub IsSaid : (text : List ℕ) (said said_new : Option (List ℕ)) (failed : Bool) → Type 0

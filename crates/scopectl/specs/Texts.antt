@@ -1,5 +1,6 @@
 -- The lines that name a fault.
-use Rattle.scopectl.specs.Words.{[], ℕ, ◌++◌, ◌∷◌, Cancelled, GatewayFault, List, Lost, Memory, NoOffer, None, NotedFault, Option, PlanFault, PlanLine, ProgramFault, Read, Rejected, ScriptFault, Some}
+use Rattle.std.specs.Prelude.{◌++◌, ◌∷◌}
+use Rattle.scopectl.specs.Words.{[], ℕ, Cancelled, GatewayFault, List, Lost, Memory, NoOffer, None, NotedFault, Option, PlanFault, PlanLine, ProgramFault, Read, Rejected, ScriptFault, Some}
 use Rattle.scopectl.specs.Words.{Strange, Time, Write, codes, decimal, words_of}
 use Rattle.scopectl.specs.declared.fault.ProgramFault.TheVariants.{Notes}
 

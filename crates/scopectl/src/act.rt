@@ -1,5 +1,6 @@
 //! All that the program does.
-ghost use Rattle.scopectl.specs.{ℕ, ◌≡◌, ◌≢◌, ◌≤◌, ◌⊎◌, Appends, AppendsPart, Bool, DidAll, DidJob, DidNothing, DidPart, DidReplay, DidSome, DidWhole, IsRead, IsSaid, IsScript, IsSound, List, Names};
+ghost use Rattle.std.specs.Prelude.{◌≡◌, ◌≢◌, ◌≤◌, ◌⊎◌};
+ghost use Rattle.scopectl.specs.{ℕ, Appends, AppendsPart, Bool, DidAll, DidJob, DidNothing, DidPart, DidReplay, DidSome, DidWhole, IsRead, IsSaid, IsScript, IsSound, List, Names};
 ghost use Rattle.scopectl.specs.{NamesAfter, NamesAfterNotes, NamesAlone, NamesAny, NamesOf, NamesOfPlan, None, Noted, SaidSome, Some, WroteScriptPartly, between_of, count_text, false, is_silent};
 ghost use Rattle.scopectl.specs.{line_of, lines_or, map, not_utf8_line, notes_wanted, place_or, run, seen_of, status_of, string_bytes, three_if_some, tree_part, true, view_of};
 

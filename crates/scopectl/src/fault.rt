@@ -1,5 +1,6 @@
 //! What the program says on standard error: why it ends with status 1, and how many lines were refused.
-ghost use Rattle.scopectl.specs.{◌≡◌, ◌≤◌, IfSome, cause_of, count_text, fault_of_noted, fault_of_plan, fault_of_run, fault_of_service, foreign_text, length, line_of, option_map, word_of};
+ghost use Rattle.std.specs.Prelude.{◌≡◌, ◌≤◌};
+ghost use Rattle.scopectl.specs.{IfSome, cause_of, count_text, fault_of_noted, fault_of_plan, fault_of_run, fault_of_service, foreign_text, length, line_of, option_map, word_of};
 
 use arrayvec::ArrayString;
 use itoa::Buffer;

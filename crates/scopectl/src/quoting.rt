@@ -1,5 +1,6 @@
 //! The answer to the plan that is read. Nothing is written here.
-ghost use Rattle.scopectl.specs.{[], ◌++◌, ◌+◌, ◌<◌, ◌^◌, ◌∷◌, ◌≡◌, ◌⊎◌, AllowedIn, AllowedText, AnswersPlan, Bool, CameReading, Err, IfErr, IfOk, IsBadLine, IsOfPlan, Made, MayEndPlan, None, Ok};
+ghost use Rattle.std.specs.Prelude.{◌++◌, ◌+◌, ◌<◌, ◌^◌, ◌∷◌, ◌≡◌, ◌⊎◌};
+ghost use Rattle.scopectl.specs.{[], AllowedIn, AllowedText, AnswersPlan, Bool, CameReading, Err, IfErr, IfOk, IsBadLine, IsOfPlan, Made, MayEndPlan, None, Ok};
 ghost use Rattle.scopectl.specs.{OnErr, OnOk, ReadPlan, ReadSome, SaysAllowed, Some, answer_text, drop, false, has_late, is_timed, labels_in, labels_of, length, list_any, nat_lt, not, same_name};
 ghost use Rattle.scopectl.specs.{string_bytes, true};
 

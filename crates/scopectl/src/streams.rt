@@ -1,5 +1,6 @@
 //! The streams of a run of the program.
-ghost use Rattle.scopectl.specs.{◌≡◌, false};
+ghost use Rattle.std.specs.Prelude.{◌≡◌};
+ghost use Rattle.scopectl.specs.{false};
 
 use scope_script::Watched;
 use std::alloc::Global;

@@ -1,5 +1,6 @@
 //! The threads of a plan's jobs, which there are only if the words say a quote.
-ghost use Rattle.scopectl.specs.{◌≡◌, Acts, IfOk, IsRead, IsSound, map, run, string_bytes};
+ghost use Rattle.std.specs.Prelude.{◌≡◌};
+ghost use Rattle.scopectl.specs.{Acts, IfOk, IsRead, IsSound, map, run, string_bytes};
 
 use crate::act::{act, refuse_words};
 use crate::looks::Looker;

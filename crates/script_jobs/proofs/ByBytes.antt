@@ -1,6 +1,7 @@
 -- Notes on a script that comes byte by byte are those on its lines.
-use Rattle.script_jobs.specs.{[], ℕ, ◌++◌, ◌==◌, ◌∷◌, ◌≡◌, AppendsPart, Begun.Begun, Bool, CutsLine, Limits, List, NoteSession, Noting.Noting, Some, Words.Notes, begun_by, begun_line, byte_note}
-use Rattle.script_jobs.specs.{bytes_note, end_note, ended_lines, false, grown, grown_by, has_feed, if◌then◌else◌, line_note, line_said, no_line, noted_byte, noted_bytes, notes_begin, notes_from}
+use Rattle.std.specs.Prelude.{if◌then◌else◌, ◌++◌, ◌==◌, ◌∷◌, ◌≡◌}
+use Rattle.script_jobs.specs.{[], ℕ, AppendsPart, Begun.Begun, Bool, CutsLine, Limits, List, NoteSession, Noting.Noting, Some, Words.Notes, begun_by, begun_line, byte_note}
+use Rattle.script_jobs.specs.{bytes_note, end_note, ended_lines, false, grown, grown_by, has_feed, line_note, line_said, no_line, noted_byte, noted_bytes, notes_begin, notes_from}
 use Rattle.script_jobs.specs.{notes_text, noting_after, noting_begins, true}
 use Rattle.script_jobs.proofs.Words.{◌∙◌, ap, append-nil, append_assoc, or_parts, refl, sym}
 use Rattle.script_jobs.proofs.Growing.{grown_begun, none_begun, said_first}

@@ -1,5 +1,6 @@
 -- Two texts that are gone through line by line.
-use Rattle.script_jobs.specs.{[], ℕ, ◌++◌, ◌+◌, ◌<◌, ◌∷◌, ◌≡◌, BeginAlike, CutsLine, List, flat_map, length}
+use Rattle.std.specs.Prelude.{◌++◌, ◌+◌, ◌<◌, ◌∷◌, ◌≡◌}
+use Rattle.script_jobs.specs.{[], ℕ, BeginAlike, CutsLine, List, flat_map, length}
 use Rattle.script_jobs.proofs.Words.{◌∙◌, ap, append-nil, append_assoc, arith, length-append, refl, sym}
 use Rattle.script_jobs.specs.Comparing.{ended}
 

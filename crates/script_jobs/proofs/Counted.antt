@@ -1,5 +1,6 @@
 -- How many times come before a moment, counted one after the other.
-use Rattle.script_jobs.specs.{[], ℕ, ◌+◌, ◌<◌, ◌∷◌, ◌≡◌, ◌≤◌, List, count_before, false, length, nat_le, true}
+use Rattle.std.specs.Prelude.{◌+◌, ◌<◌, ◌∷◌, ◌≡◌, ◌≤◌}
+use Rattle.script_jobs.specs.{[], ℕ, List, count_before, false, length, nat_le, true}
 use Rattle.script_jobs.proofs.Words.{◌∙◌, ap, arith, nat_tests, refl}
 
 -- the test of two numbers, of which one is known by another name

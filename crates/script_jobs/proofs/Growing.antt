@@ -1,5 +1,6 @@
 -- What is kept of a line as it grows, and what it decides.
-use Rattle.script_jobs.specs.{[], ℕ, ◌++◌, ◌+◌, ◌-◌, ◌<◌, ◌==◌, ◌∷◌, ◌≡◌, ◌≤◌, BadWord, Begun.Begun, Bool, KEPT_LIMIT, LINE_LIMIT, List, None, begun_by, capped, false, grown, grown_by, is_blank, kept}
+use Rattle.std.specs.Prelude.{◌++◌, ◌+◌, ◌-◌, ◌<◌, ◌==◌, ◌∷◌, ◌≡◌, ◌≤◌}
+use Rattle.script_jobs.specs.{[], ℕ, BadWord, Begun.Begun, Bool, KEPT_LIMIT, LINE_LIMIT, List, None, begun_by, capped, false, grown, grown_by, is_blank, kept}
 use Rattle.script_jobs.specs.{length, line_said, nat_lt, no_line, said, take, true}
 use Rattle.script_jobs.proofs.Words.{◌∙◌, ap, append-nil, append_assoc, arith, eqb-true, grown_kept, length-append, length-take, lt-ltb, ltb-false, ltb-true, refl, said_kept, suc, sym, take_all, zero}
 use Rattle.scope_script.specs.KeptLines.{grown_by as plain_grown_by}

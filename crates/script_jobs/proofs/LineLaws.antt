@@ -1,6 +1,7 @@
 -- The line that is known of an event is the one whose command recorded it.
-use Rattle.script_jobs.specs.{[], ℕ, ◌++◌, ◌+◌, ◌<◌, ◌==◌, ◌∷◌, ◌≡◌, ◌⊎◌, Ask, Bool, Command, Do, Event, Limits, Line, LinesRecord, List, Noting.Noting, Realm, RecordedAt, Retire, Some, base_of}
-use Rattle.script_jobs.specs.{false, if◌then◌else◌, is_accepted, is_ok, length, line_said, lines_after, nat_lt, noting_after, noting_after_lines, noting_begins, noting_of_lines, realm_after}
+use Rattle.std.specs.Prelude.{if◌then◌else◌, ◌++◌, ◌+◌, ◌<◌, ◌==◌, ◌∷◌, ◌≡◌, ◌⊎◌}
+use Rattle.script_jobs.specs.{[], ℕ, Ask, Bool, Command, Do, Event, Limits, Line, LinesRecord, List, Noting.Noting, Realm, RecordedAt, Retire, Some, base_of}
+use Rattle.script_jobs.specs.{false, is_accepted, is_ok, length, line_said, lines_after, nat_lt, noting_after, noting_after_lines, noting_begins, noting_of_lines, realm_after}
 use Rattle.script_jobs.specs.{realm_after_line, retire_check, slice_get, starting, true, with_event}
 use Rattle.script_jobs.proofs.Words.{◌∙◌, ap, append-nil, append_assoc, arith, eq-eqb, eqb-true, inl, inr, le-ltb, length-append, lt-ltb, ne_eqb, refl, subst, suc, sym, zero}
 

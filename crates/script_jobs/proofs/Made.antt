@@ -1,5 +1,6 @@
 -- Lines that are put together.
-use Rattle.script_jobs.specs.{[], ℕ, ◌&&◌, ◌++◌, ◌+◌, ◌∷◌, ◌≡◌, Bool, Do, HasWords, IsScript, Line, LineSaysTheCommand, List, OneMore, Tick, codes, digits, ended, false, flat_map, is_answered_line}
+use Rattle.std.specs.Prelude.{◌&&◌, ◌++◌, ◌+◌, ◌∷◌, ◌≡◌}
+use Rattle.script_jobs.specs.{[], ℕ, Bool, Do, HasWords, IsScript, Line, LineSaysTheCommand, List, OneMore, Tick, codes, digits, ended, false, flat_map, is_answered_line}
 use Rattle.script_jobs.specs.{line_said, list_all, true, words_of}
 use Rattle.script_jobs.proofs.Words.{◌∙◌, ap, append-nil, append_assoc, arith, length-append, lit<, refl, sym}
 

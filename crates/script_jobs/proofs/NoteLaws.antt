@@ -1,6 +1,7 @@
 -- Notes fit the lines that they are on.
-use Rattle.script_jobs.specs.{[], ℕ, ◌++◌, ◌≡◌, ◌⊎◌, All, Begun.Begun, Bool, Command, Err, Explained, Line, List, None, NotedAreCounted, NotesAreNumbered, Noting.Noting, Ok, Option, Realm, Refusals}
-use Rattle.script_jobs.specs.{RefusedAreNoted, RepliesFit, Reply, Some, Tally, Why, Words.Notes, codes, command_reason, decimal, false, fault_in, if◌then◌else◌, is_err, is_refused, is_refused_line}
+use Rattle.std.specs.Prelude.{if◌then◌else◌, ◌++◌, ◌≡◌, ◌⊎◌}
+use Rattle.script_jobs.specs.{[], ℕ, All, Begun.Begun, Bool, Command, Err, Explained, Line, List, None, NotedAreCounted, NotesAreNumbered, Noting.Noting, Ok, Option, Realm, Refusals}
+use Rattle.script_jobs.specs.{RefusedAreNoted, RepliesFit, Reply, Some, Tally, Why, Words.Notes, codes, command_reason, decimal, false, fault_in, is_err, is_refused, is_refused_line}
 use Rattle.script_jobs.specs.{line_note, line_said, no_text, not, note, one_more, refusal_said, refused_text, refusing, replied_text, reply_to, said_note, tally_after_line, true, why_below, why_if}
 use Rattle.script_jobs.specs.{with_reply}
 use Rattle.script_jobs.proofs.Words.{◌∙◌, ap, append_assoc, inl, inr, refl, sym}

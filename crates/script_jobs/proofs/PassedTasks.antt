@@ -1,5 +1,6 @@
 -- How far the tasks of scopes have ended, after one more of them, an event and a command.
-use Rattle.script_jobs.specs.{[], ℕ, ◌++◌, ◌+◌, ◌<◌, ◌==◌, ◌∷◌, ◌≡◌, ◌≤◌, ◌⊎◌, ArePassed, Ask, Bool, Checked, Command, Do, Equal-is, Err, Event, Fork, Forking, History, IfOk, Knows, Legal, Limits}
+use Rattle.std.specs.Prelude.{◌++◌, ◌+◌, ◌<◌, ◌==◌, ◌∷◌, ◌≡◌, ◌≤◌, ◌⊎◌}
+use Rattle.script_jobs.specs.{[], ℕ, ArePassed, Ask, Bool, Checked, Command, Do, Equal-is, Err, Event, Fork, Forking, History, IfOk, Knows, Legal, Limits}
 use Rattle.script_jobs.specs.{List, None, Ok, OnErr, Option, Performs, Realm, Reply, Result, Retire, Some, after_retiring, base_of, count_by, false, filter, find, followed, forking, is_accepted}
 use Rattle.script_jobs.specs.{is_at, is_fork, is_join, is_pending, is_settled, is_task_of, length, lookup, nat_cmp, option_map_or, range_with_len, realm_after, realm_stopped, retire_check, slice_get}
 use Rattle.script_jobs.specs.{stage, take, task_numbers, tasks, tasks_of, true, with_event}

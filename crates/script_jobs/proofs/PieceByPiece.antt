@@ -1,5 +1,6 @@
 -- Notes that are written piece by piece are those on the whole script.
-use Rattle.script_jobs.specs.{[], ℕ, ◌++◌, ◌==◌, ◌∷◌, ◌≡◌, Appends, AppendsPart, Bool, Limits, List, NoteSession, Option, Words.Notes, bytes_note, end_note, length, noted_bytes, notes_begin}
+use Rattle.std.specs.Prelude.{◌++◌, ◌==◌, ◌∷◌, ◌≡◌}
+use Rattle.script_jobs.specs.{[], ℕ, Appends, AppendsPart, Bool, Limits, List, NoteSession, Option, Words.Notes, bytes_note, end_note, length, noted_bytes, notes_begin}
 use Rattle.script_jobs.specs.{notes_text, true}
 use Rattle.script_jobs.proofs.Words.{◌∙◌, Appends-nil, Appends-trans, ap, append-nil, append_assoc, arith, eqb-true, part_of_part, refl, subst, sym}
 use Rattle.script_jobs.proofs.{ByBytes.note_append, ByBytes.note_none, ByBytes.noted_append, ByBytes.noted_none, ByBytes.script_notes, Running.part_after}

@@ -1,9 +1,10 @@
 -- A command has a reason just if its reply is a refusal.
-use Rattle.script_jobs.specs.{ℕ, ◌≡◌, Ask, Bool, Checked, Do, Err, Event, EventsFit, History, None, NotJoined, Ok, Option, Origin, Outcome, QueriesFit, Query, Realm, Refusal, RepliesFit, Reply}
+use Rattle.std.specs.Prelude.{if◌then◌else◌, ◌||◌, ◌≡◌}
+use Rattle.script_jobs.specs.{ℕ, Ask, Bool, Checked, Do, Err, Event, EventsFit, History, None, NotJoined, Ok, Option, Origin, Outcome, QueriesFit, Query, Realm, Refusal, RepliesFit, Reply}
 use Rattle.script_jobs.specs.{Result, Retire, RetirementsFit, Some, answer_to, answering, base_of, binding_reply, check_of, checks, command_reason, event_reply_of, false, fault_reply, followed}
-use Rattle.script_jobs.specs.{if◌then◌else◌, is_already, joined, joins, list_any, outcome, outcome_check, query_check, refusal_said, refused_alone, refused_or, replied, reply_to, result_reply}
+use Rattle.script_jobs.specs.{is_already, joined, joins, list_any, outcome, outcome_check, query_check, refusal_said, refused_alone, refused_or, replied, reply_to, result_reply}
 use Rattle.script_jobs.specs.{retire_check, row_check, scope_check, then_check, told_base, true}
-use Rattle.script_jobs.proofs.Words.{◌||◌, ◌∙◌, ap, checks_at, eq-eqb, list_any-push, ok_or, opening_stays, outcome_there, owner_passed, refl, scope_passes}
+use Rattle.script_jobs.proofs.Words.{◌∙◌, ap, checks_at, eq-eqb, list_any-push, ok_or, opening_stays, outcome_there, owner_passed, refl, scope_passes}
 
 -- ---- events
 

@@ -1,5 +1,6 @@
 -- How a replay with notes comes on: what it has read, written and noted.
-use Rattle.script_jobs.specs.{[], ℕ, ◌++◌, ◌≡◌, Appends, AppendsPart, Consumes, Count, Err, IsAtEnd, Keeps, Limits, List, NoteSession, Ok, OnErr, Option, ReplayedNoted, ReplayedPartly, Replies}
+use Rattle.std.specs.Prelude.{◌++◌, ◌≡◌}
+use Rattle.script_jobs.specs.{[], ℕ, Appends, AppendsPart, Consumes, Count, Err, IsAtEnd, Keeps, Limits, List, NoteSession, Ok, OnErr, Option, ReplayedNoted, ReplayedPartly, Replies}
 use Rattle.script_jobs.specs.{Result, Session, Turn, Words.Notes, after_bytes, bytes_note, bytes_reply, count_in, end_note, end_reply, end_tally, noted_bytes, notes_begin, notes_text, replies_of}
 use Rattle.script_jobs.specs.{take, the_beginning}
 use Rattle.script_jobs.proofs.Words.{◌∙◌, Appends-nil, Appends-trans, Consumes-kept, Consumes-nil, Consumes-trans, after_append, after_none, ap, append-nil, append_assoc, part_of_all, part_of_part}

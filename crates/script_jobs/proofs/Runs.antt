@@ -1,5 +1,6 @@
 -- What a run of a script has read and written is what a job has.
-use Rattle.script_jobs.specs.{[], ℕ, ◌++◌, ◌∷◌, ◌≡◌, Appends, AppendsPart, Consumes, Count, Dump, IsAtEnd, Limits, List, Option, Quiet, ReadSome, Realm, Replayed, Replies, RunsPartly, RunsTallied}
+use Rattle.std.specs.Prelude.{◌++◌, ◌∷◌, ◌≡◌}
+use Rattle.script_jobs.specs.{[], ℕ, Appends, AppendsPart, Consumes, Count, Dump, IsAtEnd, Limits, List, Option, Quiet, ReadSome, Realm, Replayed, Replies, RunsPartly, RunsTallied}
 use Rattle.script_jobs.specs.{RunsText, Showed, Tally, View, count_in, count_of_script, dump_text, realm_of_script, replies_of, shown as shown_bytes, shown_text, stamps_of_script, tally_of_script}
 use Rattle.script_jobs.proofs.Words.{◌∙◌, ap, refl, subst}
 

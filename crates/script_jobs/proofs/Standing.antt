@@ -1,5 +1,6 @@
 -- A script that goes on by a line is that of its lines.
-use Rattle.script_jobs.specs.{ℕ, ◌++◌, ◌≡◌, Err, Limits, List, Ok, OnOk, Result, Session, after_bytes, if◌then◌else◌, is_ok, the_beginning}
+use Rattle.std.specs.Prelude.{◌++◌, ◌≡◌, if◌then◌else◌}
+use Rattle.script_jobs.specs.{ℕ, Err, Limits, List, Ok, OnOk, Result, Session, after_bytes, is_ok, the_beginning}
 use Rattle.script_jobs.proofs.Words.{◌∙◌, after_append, ap, sym}
 
 pub stands_more : {T E : Type 0} (r : Result T E) (L : Limits) (s t : Session) (lines whole other new : List ℕ) → s ≡ after_bytes (the_beginning L) lines → t ≡ after_bytes s whole → other ≡ whole

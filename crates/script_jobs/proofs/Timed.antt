@@ -1,7 +1,8 @@
 -- The times of a script, line by line.
-use Rattle.script_jobs.specs.{[], ℕ, ◌++◌, ◌∷◌, ◌≡◌, Bool, CutsLine, List, Realm, Stamps, at_line, ended_lines, false, has_feed, has_reading, is_some, length, line_said, reading_of, realm_after_line}
+use Rattle.std.specs.Prelude.{◌++◌, ◌||◌, ◌∷◌, ◌≡◌}
+use Rattle.script_jobs.specs.{[], ℕ, Bool, CutsLine, List, Realm, Stamps, at_line, ended_lines, false, has_feed, has_reading, is_some, length, line_said, reading_of, realm_after_line}
 use Rattle.script_jobs.specs.{stamped, stamps_from, true}
-use Rattle.script_jobs.proofs.Words.{◌||◌, ◌∙◌, ap, sym}
+use Rattle.script_jobs.proofs.Words.{◌∙◌, ap, sym}
 use Rattle.script_jobs.proofs.Walked.{line_ends, no_lines}
 
 -- the lines of what is left begin with its first one

@@ -1,5 +1,6 @@
 -- The lines of a script, one by one.
-use Rattle.script_jobs.specs.{[], ℕ, ◌++◌, ◌==◌, ◌∷◌, ◌≡◌, List, ended_lines, false, has_feed}
+use Rattle.std.specs.Prelude.{◌++◌, ◌==◌, ◌∷◌, ◌≡◌}
+use Rattle.script_jobs.specs.{[], ℕ, List, ended_lines, false, has_feed}
 use Rattle.script_jobs.proofs.Words.{◌∙◌, ap, append-nil, append_assoc, cond, or_parts, refl, sym}
 
 -- bytes without a line feed end no line

@@ -1,5 +1,6 @@
 -- What is kept of a line that comes piece by piece, so that a note on it can be made.
-use Rattle.script_jobs.specs.Words.{[], ℕ, ◌++◌, ◌+◌, ◌∷◌, KEPT_LIMIT, LINE_LIMIT, List, Option, Some, TooLong, WordFault, fault_of, if◌then◌else◌, length, min, nat_lt, take}
+use Rattle.std.specs.Prelude.{◌++◌, ◌+◌, ◌∷◌, if◌then◌else◌}
+use Rattle.script_jobs.specs.Words.{[], ℕ, KEPT_LIMIT, LINE_LIMIT, List, Option, Some, TooLong, WordFault, fault_of, length, min, nat_lt, take}
 
 -- the first bytes of a line, one more than a line may have, and how many bytes it has
 pub record Begun : Type 0 where

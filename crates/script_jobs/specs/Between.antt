@@ -1,5 +1,6 @@
 -- Which events of a run are drawn, by their times.
-use Rattle.script_jobs.specs.Words.{[], ℕ, ◌+◌, ◌-◌, ◌∷◌, Between, List, None, Option, Some, if◌then◌else◌, max, min, nat_le}
+use Rattle.std.specs.Prelude.{◌+◌, ◌-◌, ◌∷◌, if◌then◌else◌}
+use Rattle.script_jobs.specs.Words.{[], ℕ, Between, List, None, Option, Some, max, min, nat_le}
 use Rattle.run_picture.specs.declared.view.View.{View as Seen}
 
 -- how many of the times, from the first on, come before the moment

@@ -1,5 +1,6 @@
 -- The first line by which two texts differ.
-use Rattle.script_jobs.specs.Words.{[], ℕ, ◌++◌, ◌+◌, ◌∷◌, ◌≡◌, ◌≢◌, ◌⊎◌, CutsLine, List, codes, decimal, false, flat_map, has_feed, length}
+use Rattle.std.specs.Prelude.{◌++◌, ◌+◌, ◌∷◌, ◌≡◌, ◌≢◌, ◌⊎◌}
+use Rattle.script_jobs.specs.Words.{[], ℕ, CutsLine, List, codes, decimal, false, flat_map, has_feed, length}
 use Rattle.refusal_reasons.specs.Shown.{shown_text}
 
 -- a line with its line feed

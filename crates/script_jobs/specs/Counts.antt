@@ -1,5 +1,6 @@
 -- How much of a script was understood.
-use Rattle.script_jobs.specs.Words.{[], ℕ, ◌&&◌, ◌==◌, ◌∷◌, Bool, Count, History, Limits, List, Tally, false, nat_lt, realm_of_script, tally_of_script, true}
+use Rattle.std.specs.Prelude.{◌&&◌, ◌==◌, ◌∷◌}
+use Rattle.script_jobs.specs.Words.{[], ℕ, Bool, Count, History, Limits, List, Tally, false, nat_lt, realm_of_script, tally_of_script, true}
 
 abbrev pub is_nil : {A : Type 0} → List A → Bool
 is_nil [] = true

@@ -1,5 +1,6 @@
 -- That a line has a note of a refusal just where it is refused.
-use Rattle.script_jobs.specs.Words.{◌≡◌, Checked, Command, Err, Ok, Realm, Refused, Reply, refusing, reply_to}
+use Rattle.std.specs.Prelude.{◌≡◌}
+use Rattle.script_jobs.specs.Words.{Checked, Command, Err, Ok, Realm, Refused, Reply, refusing, reply_to}
 use Rattle.script_jobs.specs.Whys.{command_reason}
 
 -- what a reply says that a command was refused for

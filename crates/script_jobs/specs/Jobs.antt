@@ -1,5 +1,6 @@
 -- What a job on a script has read and made.
-use Rattle.script_jobs.specs.Words.{[], ℕ, ◌++◌, ◌∷◌, ◌≡◌, Appends, AppendsPart, Clock, Consumes, Count, Dump, History, IsAtEnd, Limits, List, None, Notes, Option, Some, TimedDump, Timeline}
+use Rattle.std.specs.Prelude.{◌++◌, ◌∷◌, ◌≡◌}
+use Rattle.script_jobs.specs.Words.{[], ℕ, Appends, AppendsPart, Clock, Consumes, Count, Dump, History, IsAtEnd, Limits, List, None, Notes, Option, Some, TimedDump, Timeline}
 use Rattle.script_jobs.specs.Words.{TraceEvents, Tree, TreePart, View, clock_by, drawn_text, dump_text, part_text, realm_of_script, replies_of, timed_dump_text, trace_text}
 use Rattle.script_jobs.specs.{Between.seen_between, Counts.count_of_script, Notes.notes_text, Times.Stamps, Times.stamps_of_script, Turns.Turn}
 

@@ -1,5 +1,6 @@
 -- That the line which is known of an event is the one whose command recorded it.
-use Rattle.script_jobs.specs.Words.{[], ℕ, ◌++◌, ◌+◌, ◌<◌, ◌∷◌, ◌≡◌, Do, Event, Limits, List, Some, length, line_said, slice_get}
+use Rattle.std.specs.Prelude.{◌++◌, ◌+◌, ◌<◌, ◌∷◌, ◌≡◌}
+use Rattle.script_jobs.specs.Words.{[], ℕ, Do, Event, Limits, List, Some, length, line_said, slice_get}
 use Rattle.script_words.specs.declared.commands.Line.TheVariants.{Command}
 use Rattle.script_jobs.specs.Noting.{Noting, noting_after, noting_begins}
 

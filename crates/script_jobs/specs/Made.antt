@@ -1,5 +1,6 @@
 -- What a script is that was made: lines that are answered, each.
-use Rattle.script_jobs.specs.Words.{[], ℕ, ◌&&◌, ◌++◌, ◌==◌, ◌∷◌, ◌≡◌, BadWord, Bool, Line, List, Silent, false, flat_map, length, line_said, list_all, list_any, not, true}
+use Rattle.std.specs.Prelude.{◌&&◌, ◌++◌, ◌==◌, ◌∷◌, ◌≡◌}
+use Rattle.script_jobs.specs.Words.{[], ℕ, BadWord, Bool, Line, List, Silent, false, flat_map, length, line_said, list_all, list_any, not, true}
 use Rattle.script_words.specs.declared.commands.Line.TheVariants.{Command}
 
 abbrev pub is_answered : Line → Bool

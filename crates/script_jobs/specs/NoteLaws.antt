@@ -1,5 +1,6 @@
 -- That notes fit the lines that they are on.
-use Rattle.script_jobs.specs.Words.{[], ℕ, ◌++◌, ◌∷◌, ◌≡◌, ◌⊎◌, BadWord, Bool, Line, List, Notes, Realm, Refusals, Silent, Tally, codes, decimal, false, if◌then◌else◌, is_refused, line_said, not}
+use Rattle.std.specs.Prelude.{◌++◌, ◌∷◌, ◌≡◌, ◌⊎◌, if◌then◌else◌}
+use Rattle.script_jobs.specs.Words.{[], ℕ, BadWord, Bool, Line, List, Notes, Realm, Refusals, Silent, Tally, codes, decimal, false, is_refused, line_said, not}
 use Rattle.script_jobs.specs.Words.{one_more, reply_to, tally_after_line, true}
 use Rattle.script_words.specs.declared.commands.Line.TheVariants.{Command}
 use Rattle.script_jobs.specs.{Begun.Begun, Notes.line_note, Noting.Noting}

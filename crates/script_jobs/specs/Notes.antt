@@ -1,6 +1,7 @@
 -- The notes on a script.
-use Rattle.script_jobs.specs.Words.{[], ℕ, ◌++◌, ◌==◌, ◌∷◌, All, Command, Limits, Line, List, None, Notes, Option, Place, Refusals, Refused, Reply, Some, Why, begun_line, codes, decimal, ended_lines}
-use Rattle.script_jobs.specs.Words.{if◌then◌else◌, length, line_said, picture_text, place_of, reply_text, reply_to}
+use Rattle.std.specs.Prelude.{if◌then◌else◌, ◌++◌, ◌==◌, ◌∷◌}
+use Rattle.script_jobs.specs.Words.{[], ℕ, All, Command, Limits, Line, List, None, Notes, Option, Place, Refusals, Refused, Reply, Some, Why, begun_line, codes, decimal, ended_lines}
+use Rattle.script_jobs.specs.Words.{length, line_said, picture_text, place_of, reply_text, reply_to}
 use Rattle.refusal_reasons.specs.Shown.{shown_text}
 use Rattle.scope_rules.specs.declared.types.refusals.Refusal.TheVariants.{BadWord as bad_word}
 use Rattle.script_jobs.specs.{Begun.Begun, Begun.begun_by, Begun.fault_in, Begun.grown, Begun.no_line, Noting.Noting, Noting.noting_after, Noting.noting_begins, Whys.command_why, Whys.why_text}

@@ -1,5 +1,6 @@
 -- A script under way whose lines get notes.
-use Rattle.script_jobs.specs.Words.{[], ℕ, ◌++◌, ◌==◌, ◌∷◌, History, Limits, Line, List, Realm, if◌then◌else◌, length, nat_lt, one_more, realm_after_line, starting, the_start}
+use Rattle.std.specs.Prelude.{◌++◌, ◌==◌, ◌∷◌, if◌then◌else◌}
+use Rattle.script_jobs.specs.Words.{[], ℕ, History, Limits, Line, List, Realm, length, nat_lt, one_more, realm_after_line, starting, the_start}
 
 -- the realm, of each event since its base the number of the line whose command recorded it, and the number of the next
 -- line

@@ -1,5 +1,6 @@
 -- What the page of a script has read and made.
-use Rattle.script_jobs.specs.Words.{ℕ, ◌≡◌, Consumes, Count, IsAtEnd, IsPageOf, Limits, List, Option, realm_of_script}
+use Rattle.std.specs.Prelude.{◌≡◌}
+use Rattle.script_jobs.specs.Words.{ℕ, Consumes, Count, IsAtEnd, IsPageOf, Limits, List, Option, realm_of_script}
 use Rattle.script_jobs.specs.{Counts.count_of_script, Times.stamps_of_script}
 
 -- all bytes were read, and the text is a page of the realm that they leave, which refused so many lines, by the readings

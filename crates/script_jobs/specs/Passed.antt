@@ -1,5 +1,6 @@
 -- How far the tasks of scopes have ended.
-use Rattle.script_jobs.specs.Words.{ℕ, ◌<◌, ◌≡◌, ◌≤◌, History, Some, is_settled, length, nat_cmp, slice_get, stage, tasks_of, true}
+use Rattle.std.specs.Prelude.{◌<◌, ◌≡◌, ◌≤◌}
+use Rattle.script_jobs.specs.Words.{ℕ, History, Some, is_settled, length, nat_cmp, slice_get, stage, tasks_of, true}
 use Rattle.std.specs.BTreeMap as tree
 
 -- the first n tasks of scope s neither wait nor run

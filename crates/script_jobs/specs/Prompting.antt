@@ -1,5 +1,6 @@
 -- A script that a person types at a prompt.
-use Rattle.script_jobs.specs.Words.{ℕ, ◌++◌, ◌≡◌, Bool, Limits, List, after_bytes, false, the_beginning}
+use Rattle.std.specs.Prelude.{◌++◌, ◌≡◌}
+use Rattle.script_jobs.specs.Words.{ℕ, Bool, Limits, List, after_bytes, false, the_beginning}
 use Rattle.script_jobs.specs.Scripts.{plain_of}
 use Rattle.script_jobs.specs.declared.session.NotedScript.{NotedScript}
 

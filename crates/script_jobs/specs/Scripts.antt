@@ -1,5 +1,6 @@
 -- What a script of the code stands for: for its replies, and for the notes on its lines.
-use Rattle.script_jobs.specs.Words.{◌≡◌, Count, Limits, Notes, Session, kept, realm_of, the_beginning}
+use Rattle.std.specs.Prelude.{◌≡◌}
+use Rattle.script_jobs.specs.Words.{Count, Limits, Notes, Session, kept, realm_of, the_beginning}
 use Rattle.script_jobs.specs.{Jobs.ReplayedNoted, Jobs.ReplayedPartly, Notes.NoteSession, Notes.notes_begin, Noting.Noting, Turns.Turn}
 use Rattle.script_jobs.specs.declared.session.NotedScript.{NotedScript}
 

@@ -1,5 +1,6 @@
 -- Readings of a clock in a script: lines `# at MILLIS`, which say nothing to the realm.
-use Rattle.script_jobs.specs.Words.{[], ℕ, ◌&&◌, ◌++◌, ◌∷◌, Bool, Limits, List, None, Option, Realm, Some, Times, bytes_eq, codes, ended_lines, fields, if◌then◌else◌, is_some, just_three, length}
+use Rattle.std.specs.Prelude.{◌&&◌, ◌++◌, ◌∷◌, if◌then◌else◌}
+use Rattle.script_jobs.specs.Words.{[], ℕ, Bool, Limits, List, None, Option, Realm, Some, Times, bytes_eq, codes, ended_lines, fields, is_some, just_three, length}
 use Rattle.script_jobs.specs.Words.{line_said, list_any, moment_said, nat_le, nat_lt, option_and_then, realm_after_line, starting, the_start, unwrap_or}
 
 abbrev pub small : ℕ → Option ℕ

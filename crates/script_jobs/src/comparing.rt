@@ -1,5 +1,6 @@
 //! The first line by which replies differ from those that were expected.
-ghost use Rattle.script_jobs.specs.{◌≡◌, BeginAlike, DiffersAt, IfSome, IsFirst, MatchOption, Some, difference_text};
+ghost use Rattle.std.specs.Prelude.{◌≡◌};
+ghost use Rattle.script_jobs.specs.{BeginAlike, DiffersAt, IfSome, IsFirst, MatchOption, Some, difference_text};
 
 use refusal_reasons::ShownBytes;
 use scope_script::first_line;

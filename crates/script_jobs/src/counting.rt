@@ -1,5 +1,6 @@
 //! How much of a script was understood.
-ghost use Rattle.script_jobs.specs.{◌≡◌, count_in, history_of, is_refused, is_untouched, no_refusals, one_more, with_bad_word, with_reply};
+ghost use Rattle.std.specs.Prelude.{◌≡◌};
+ghost use Rattle.script_jobs.specs.{count_in, history_of, is_refused, is_untouched, no_refusals, one_more, with_bad_word, with_reply};
 
 use realm_state::RealmState;
 use scope_script::{Ran, Reply, Tally};

@@ -1,5 +1,6 @@
 //! What a script leaves, as it is shown, with notes on its lines.
-ghost use Rattle.script_jobs.specs.{[], ◌≡◌, ◌⊎◌, Appends, AppendsPart, IfOk, IsErrOf, Limits, NotedPartly, OnErr, OnOk, ShowedNoted, bytes_note, end_note, false, noted_bytes, noted_of, notes_begin};
+ghost use Rattle.std.specs.Prelude.{◌≡◌, ◌⊎◌};
+ghost use Rattle.script_jobs.specs.{[], Appends, AppendsPart, IfOk, IsErrOf, Limits, NotedPartly, OnErr, OnOk, ShowedNoted, bytes_note, end_note, false, noted_bytes, noted_of, notes_begin};
 ghost use Rattle.script_jobs.specs.{notes_text, string_bytes, true, turn};
 
 use crate::Notes;

@@ -1,5 +1,6 @@
 //! The replies to a script, with notes on its lines, line by line.
-ghost use Rattle.script_jobs.specs.{[], ◌<◌, ◌≡◌, ◌⊎◌, Appends, AppendsPart, IfOk, IsErrOf, OnErr, OnOk, ReplayedNoted, ReplayedPartly, ReplaysFrom, StopsFrom, after_bytes, bytes_note, bytes_reply};
+ghost use Rattle.std.specs.Prelude.{◌<◌, ◌≡◌, ◌⊎◌};
+ghost use Rattle.script_jobs.specs.{[], Appends, AppendsPart, IfOk, IsErrOf, OnErr, OnOk, ReplayedNoted, ReplayedPartly, ReplaysFrom, StopsFrom, after_bytes, bytes_note, bytes_reply};
 ghost use Rattle.script_jobs.specs.{count_in, end_note, end_reply, end_tally, false, history_of, length, noted_bytes, noted_of, notes_begin, plain_of, true, turn};
 
 use crate::Notes;

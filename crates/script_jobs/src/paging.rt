@@ -1,5 +1,6 @@
 //! The page of what a script leaves.
-ghost use Rattle.script_jobs.specs.{[], ◌≡◌, ◌⊎◌, Appends, IfErr, IfOk, IsErrOf, IsPageOf, OnErr, Paged, ReadSome, count_in, count_of_script, false, history_of, realm_of_script, stamps_of_script};
+ghost use Rattle.std.specs.Prelude.{◌≡◌, ◌⊎◌};
+ghost use Rattle.script_jobs.specs.{[], Appends, IfErr, IfOk, IsErrOf, IsPageOf, OnErr, Paged, ReadSome, count_in, count_of_script, false, history_of, realm_of_script, stamps_of_script};
 ghost use Rattle.script_jobs.specs.{string_bytes, true};
 
 use crate::counting::count_of;

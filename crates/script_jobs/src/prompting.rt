@@ -1,5 +1,6 @@
 //! A replay at a terminal: each line is answered and explained at once.
-ghost use Rattle.script_jobs.specs.{[], ◌++◌, ◌<◌, ◌∷◌, ◌≡◌, ◌≤◌, ◌⊎◌, IsBeginning, IsErrOf, OnOk, Stands, StandsUnless, false, length, true};
+ghost use Rattle.std.specs.Prelude.{◌++◌, ◌<◌, ◌∷◌, ◌≡◌, ◌≤◌, ◌⊎◌};
+ghost use Rattle.script_jobs.specs.{[], IsBeginning, IsErrOf, OnOk, Stands, StandsUnless, false, length, true};
 
 use crate::Notes;
 use crate::command_helps::help_on;

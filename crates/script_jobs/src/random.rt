@@ -1,5 +1,5 @@
 //! Numbers that look random, by the generator SplitMix64.
-ghost use Rattle.script_jobs.specs.{◌<◌};
+ghost use Rattle.std.specs.Prelude.{◌<◌};
 
 /// A sequence of numbers that its first state decides.
 #[derive(Drop)]

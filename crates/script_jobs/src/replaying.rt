@@ -1,5 +1,6 @@
 //! The replies to a script.
-ghost use Rattle.script_jobs.specs.{◌≡◌, ◌⊎◌, IfOk, IsErrOf, OnErr, Replayed, RunsPartly, false, true};
+ghost use Rattle.std.specs.Prelude.{◌≡◌, ◌⊎◌};
+ghost use Rattle.script_jobs.specs.{IfOk, IsErrOf, OnErr, Replayed, RunsPartly, false, true};
 
 use crate::counting::{Count, count_of};
 use scope_rules::Limits;

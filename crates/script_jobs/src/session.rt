@@ -1,5 +1,6 @@
 //! A script under way whose lines get notes.
-ghost use Rattle.script_jobs.specs.{[], ◌++◌, ◌∷◌, ◌≡◌, AppendsPart, History, IfOk, Legal, OnErr, OnOk, Some, after_bytes, bad_note, bad_word_line, bytes_note, bytes_reply, count_in, done_note};
+ghost use Rattle.std.specs.Prelude.{◌++◌, ◌∷◌, ◌≡◌};
+ghost use Rattle.script_jobs.specs.{[], AppendsPart, History, IfOk, Legal, OnErr, OnOk, Some, after_bytes, bad_note, bad_word_line, bytes_note, bytes_reply, count_in, done_note};
 ghost use Rattle.script_jobs.specs.{end_note, end_reply, end_tally, history_of, length, limits_of, line_note, line_reply, line_said, lines_after, no_line, note, noted_bytes, noted_of, notes_begin};
 ghost use Rattle.script_jobs.specs.{noting_after, noting_of, plain_of, realm_after, realm_after_line, realm_of, reply_text, reply_to, said_note, string_bytes, tally_after_line, the_beginning};
 ghost use Rattle.script_jobs.specs.{with_bad_word, with_reply};

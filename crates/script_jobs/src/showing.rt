@@ -1,5 +1,6 @@
 //! What a script leaves, as it is shown.
-ghost use Rattle.script_jobs.specs.{[], ◌++◌, ◌∷◌, ◌≡◌, ◌⊎◌, Appends, IfErr, IfOk, IsErrOf, OnErr, ReadSome, Showed, aged_text, clock_in, clock_of, count_in, count_of_script, drawn_text, dump_text};
+ghost use Rattle.std.specs.Prelude.{◌++◌, ◌∷◌, ◌≡◌, ◌⊎◌};
+ghost use Rattle.script_jobs.specs.{[], Appends, IfErr, IfOk, IsErrOf, OnErr, ReadSome, Showed, aged_text, clock_in, clock_of, count_in, count_of_script, drawn_text, dump_text};
 ghost use Rattle.script_jobs.specs.{false, history_of, realm_of_script, shown_text, stamps_of, stamps_of_script, string_bytes, trace_text, true};
 
 use crate::between::Between;

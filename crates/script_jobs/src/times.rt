@@ -1,6 +1,7 @@
 //! Readings of a clock in a script: lines `# at MILLIS`, which say nothing to the realm. MILLIS are milliseconds since
 //! the realm began, at most 2^32 - 1.
-ghost use Rattle.script_jobs.specs.{[], ◌≡◌, IfOk, Legal, OnOk, at_line, ended_lines, has_reading, history_of, limits_of, line_said, reading_of, realm_after_line, realm_of, small, stamped};
+ghost use Rattle.std.specs.Prelude.{◌≡◌};
+ghost use Rattle.script_jobs.specs.{[], IfOk, Legal, OnOk, at_line, ended_lines, has_reading, history_of, limits_of, line_said, reading_of, realm_after_line, realm_of, small, stamped};
 ghost use Rattle.script_jobs.specs.{stamps_from, stamps_of, stamps_of_script, starting, the_start};
 
 use scope_book::BookState;

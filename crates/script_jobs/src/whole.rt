@@ -1,5 +1,6 @@
 //! A script that is read whole.
-ghost use Rattle.script_jobs.specs.{◌≡◌, ◌⊎◌, Consumes, IfOk, IsAtEnd, IsErrOf, OnErr, ReadSome, false, true};
+ghost use Rattle.std.specs.Prelude.{◌≡◌, ◌⊎◌};
+ghost use Rattle.script_jobs.specs.{Consumes, IfOk, IsAtEnd, IsErrOf, OnErr, ReadSome, false, true};
 
 use scope_script::session::run::PIECE;
 use scope_script::{ScriptFault, Watched};

@@ -1,5 +1,6 @@
 //! Why a line is refused.
-ghost use Rattle.script_jobs.specs.{◌≡◌, Knows, Some, command_reason, command_why, history_of, realm_of, why_if, why_text};
+ghost use Rattle.std.specs.Prelude.{◌≡◌};
+ghost use Rattle.script_jobs.specs.{Knows, Some, command_reason, command_why, history_of, realm_of, why_if, why_text};
 
 use crate::passed::{PassedTasks, RealmEvents};
 use refusal_reasons::{

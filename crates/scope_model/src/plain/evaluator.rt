@@ -1,4 +1,5 @@
-ghost use Rattle.scope_model.specs.{◌≡◌, Accepts, AnswersOrMemory, IsRuled, Words.Legal, MatchResult, base_check, base_of, starting, weight, with_event};
+ghost use Rattle.std.specs.Prelude.{◌≡◌};
+ghost use Rattle.scope_model.specs.{Accepts, AnswersOrMemory, IsRuled, Words.Legal, MatchResult, base_check, base_of, starting, weight, with_event};
 
 use crate::scan::view::HistoryView;
 use scope_journal::{Journal, weight};

@@ -1,4 +1,5 @@
-ghost use Rattle.scope_model.specs.{◌+◌, ◌<◌, ◌^◌, ◌≡◌, AnswersValue, IfOk, Ok, answering, binding_reply, cancelled_at, cause, check_of, counts, effective, fault_reply, length, log, moment, outcome};
+ghost use Rattle.std.specs.Prelude.{◌+◌, ◌<◌, ◌^◌, ◌≡◌};
+ghost use Rattle.scope_model.specs.{AnswersValue, IfOk, Ok, answering, binding_reply, cancelled_at, cause, check_of, counts, effective, fault_reply, length, log, moment, outcome};
 ghost use Rattle.scope_model.specs.{outcome_check, preview, result_reply, scope_check, stage, state, task_check, until_check};
 
 use crate::plain::evaluator::Plain;

@@ -1,4 +1,5 @@
-ghost use Rattle.scope_model.specs.{◌≡◌, info_reply, inner_reply, label_reply, outermost, task_at_reply, task_inner_reply};
+ghost use Rattle.std.specs.Prelude.{◌≡◌};
+ghost use Rattle.scope_model.specs.{info_reply, inner_reply, label_reply, outermost, task_at_reply, task_inner_reply};
 
 use crate::plain::evaluator::Plain;
 use scope_checks::queries;

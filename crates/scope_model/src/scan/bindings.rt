@@ -1,4 +1,5 @@
-ghost use Rattle.scope_model.specs.{[], ◌++◌, ◌+◌, ◌<◌, ◌^◌, ◌≡◌, ◌≤◌, IfOk, IfSome, OnOk, Some, base_of, bindings, bindings_within, bound_as_at, bound_as_opened, bound_to, cons_option, differ_at};
+ghost use Rattle.std.specs.Prelude.{◌++◌, ◌+◌, ◌<◌, ◌^◌, ◌≡◌, ◌≤◌};
+ghost use Rattle.scope_model.specs.{[], IfOk, IfSome, OnOk, Some, base_of, bindings, bindings_within, bound_as_at, bound_as_opened, bound_to, cons_option, differ_at};
 ghost use Rattle.scope_model.specs.{first_stack, height_after, holds_last, length, opened_above, pair_after, same_pair, same_pairs, scope_numbers, slice_get, some_below, stack, take, value_under};
 
 use crate::scan::view::HistoryView;

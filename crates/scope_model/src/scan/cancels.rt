@@ -1,4 +1,5 @@
-ghost use Rattle.scope_model.specs.{◌+◌, ◌<◌, ◌≡◌, ◌≤◌, IfSome, Some, cancelled_at, cancelled_before, cause, counting_deadline, deadline, direct_kind, earliest, earliest_on, effective, first_cancel};
+ghost use Rattle.std.specs.Prelude.{◌+◌, ◌<◌, ◌≡◌, ◌≤◌};
+ghost use Rattle.scope_model.specs.{IfSome, Some, cancelled_at, cancelled_before, cause, counting_deadline, deadline, direct_kind, earliest, earliest_on, effective, first_cancel};
 ghost use Rattle.scope_model.specs.{is_cancelled, kind_by, last_of, least_on, length, move_of, nearer, outer, outwards, overdue, own, own_at, own_cancel, sooner};
 
 use crate::scan::view::HistoryView;

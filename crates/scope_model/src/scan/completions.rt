@@ -1,4 +1,5 @@
-ghost use Rattle.scope_model.specs.{◌*◌, ◌<◌, ◌^◌, ◌≡◌, ◌≤ℤ◌, ◌≤◌, Some, completes, completion_of, completions, count_by, fires, has_failed, has_succeeded, is_task_of, joiner_fires, length, list_any};
+ghost use Rattle.std.specs.Prelude.{◌*◌, ◌<◌, ◌^◌, ◌≡◌, ◌≤ℤ◌, ◌≤◌};
+ghost use Rattle.scope_model.specs.{Some, completes, completion_of, completions, count_by, fires, has_failed, has_succeeded, is_task_of, joiner_fires, length, list_any};
 ghost use Rattle.scope_model.specs.{meets, neg_ℤ, option_map_or, passes_at, pos, summand_of_end, total_of};
 
 use crate::scan::view::HistoryView;

@@ -1,4 +1,5 @@
-ghost use Rattle.scope_model.specs.{◌+◌, ◌<◌, ◌^◌, ◌≡◌, ◌≤◌, IfSome, Some, earliest, forking, forking_of, is_fork, is_open, is_some, last_of, length, moment, numbered_at, opening, opening_of};
+ghost use Rattle.std.specs.Prelude.{◌+◌, ◌<◌, ◌^◌, ◌≡◌, ◌≤◌};
+ghost use Rattle.scope_model.specs.{IfSome, Some, earliest, forking, forking_of, is_fork, is_open, is_some, last_of, length, moment, numbered_at, opening, opening_of};
 ghost use Rattle.scope_model.specs.{tick_of};
 
 use crate::scan::view::HistoryView;

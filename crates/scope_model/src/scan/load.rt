@@ -1,4 +1,5 @@
-ghost use Rattle.scope_model.specs.{◌≡◌, load};
+ghost use Rattle.std.specs.Prelude.{◌≡◌};
+ghost use Rattle.scope_model.specs.{load};
 
 use crate::scan::view::HistoryView;
 use scope_journal::weight;

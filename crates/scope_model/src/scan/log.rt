@@ -1,4 +1,5 @@
-ghost use Rattle.scope_model.specs.{◌<◌, ◌==◌, ◌^◌, ◌≡◌, IfOk, None, entries, entry_at, if◌then◌else◌, is_of, length, log, mark_of, option_and_then};
+ghost use Rattle.std.specs.Prelude.{◌<◌, ◌==◌, ◌^◌, ◌≡◌, if◌then◌else◌};
+ghost use Rattle.scope_model.specs.{IfOk, None, entries, entry_at, is_of, length, log, mark_of, option_and_then};
 
 use crate::scan::outcomes::push_some;
 use crate::scan::view::HistoryView;

@@ -1,4 +1,5 @@
-ghost use Rattle.scope_model.specs.{◌<◌, ◌≡◌, inner, next_unclosed, opened_count, outermost, slice_get, tasks_of, unclosed_after};
+ghost use Rattle.std.specs.Prelude.{◌<◌, ◌≡◌};
+ghost use Rattle.scope_model.specs.{inner, next_unclosed, opened_count, outermost, slice_get, tasks_of, unclosed_after};
 
 use crate::scan::view::HistoryView;
 use scope_rules::types::values::{Actor, ScopeId, TaskId};

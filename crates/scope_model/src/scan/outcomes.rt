@@ -1,4 +1,5 @@
-ghost use Rattle.scope_model.specs.{[], ◌++◌, ◌+◌, ◌<◌, ◌≡◌, ◌≤◌, IfOk, IfSome, None, OnOk, Some, cons_option, earliest, entry_in, first_read, has_failed, has_succeeded, if◌then◌else◌, is_task_of};
+ghost use Rattle.std.specs.Prelude.{◌++◌, ◌+◌, ◌<◌, ◌≡◌, ◌≤◌, if◌then◌else◌};
+ghost use Rattle.scope_model.specs.{[], IfOk, IfSome, None, OnOk, Some, cons_option, earliest, entry_in, first_read, has_failed, has_succeeded, is_task_of};
 ghost use Rattle.scope_model.specs.{joining, joining_at, length, outcome, outcome_of, readable_at, readable_of, state, value_in};
 
 use crate::scan::view::HistoryView;

@@ -1,4 +1,5 @@
-ghost use Rattle.scope_model.specs.{◌+◌, ◌<◌, ◌^◌, ◌≡◌, ◌≤◌, IfSome, Some, around, begins_closing, closed, closing, closing_at, covers, forked_in, have_one_opener, innermost, joined, latest, length};
+ghost use Rattle.std.specs.Prelude.{◌+◌, ◌<◌, ◌^◌, ◌≡◌, ◌≤◌};
+ghost use Rattle.scope_model.specs.{IfSome, Some, around, begins_closing, closed, closing, closing_at, covers, forked_in, have_one_opener, innermost, joined, latest, length};
 ghost use Rattle.scope_model.specs.{next_level, opened_count, opening, outer, outwards, parent, some_below, surrounding, unclosed_of};
 
 use crate::scan::view::HistoryView;

@@ -1,4 +1,5 @@
-ghost use Rattle.scope_model.specs.{◌+◌, ◌<◌, ◌^◌, ◌≡◌, ◌≤◌, IfSome, Some, count_by, counts, ending, ending_at, ending_of, finished, forked_count, is_at, is_finished, is_never, is_running};
+ghost use Rattle.std.specs.Prelude.{◌+◌, ◌<◌, ◌^◌, ◌≡◌, ◌≤◌};
+ghost use Rattle.scope_model.specs.{IfSome, Some, count_by, counts, ending, ending_at, ending_of, finished, forked_count, is_at, is_finished, is_never, is_running};
 ghost use Rattle.scope_model.specs.{is_settled, is_stage, is_task_of, is_unsettled, is_waiting, length, list_all, range_with_len, rejected, settled, stage, stage_of, started, state, state_of};
 ghost use Rattle.scope_model.specs.{task_numbers};
 

@@ -1,4 +1,5 @@
-ghost use Rattle.scope_model.specs.{◌<◌, ◌≡◌, begins_for, covers_another, covers_other, has_tasks, length, verdict, violated, violating_at};
+ghost use Rattle.std.specs.Prelude.{◌<◌, ◌≡◌};
+ghost use Rattle.scope_model.specs.{begins_for, covers_another, covers_other, has_tasks, length, verdict, violated, violating_at};
 
 use crate::scan::view::HistoryView;
 use scope_rules::types::answers::Verdict;

@@ -1,4 +1,5 @@
-ghost use Rattle.scope_model.specs.{◌+◌, ◌<◌, ◌^◌, ◌≡◌, ◌≤◌, HasSmallNumbers, Some, before, count_by, forked_count, is_fork, is_open, length, opened_count, scopes, slice_get, tasks};
+ghost use Rattle.std.specs.Prelude.{◌+◌, ◌<◌, ◌^◌, ◌≡◌, ◌≤◌};
+ghost use Rattle.scope_model.specs.{HasSmallNumbers, Some, before, count_by, forked_count, is_fork, is_open, length, opened_count, scopes, slice_get, tasks};
 
 use scope_rules::types::bases::Base;
 use scope_rules::types::events::Event;

@@ -1,4 +1,5 @@
-use Rattle.command_line.specs.{◌≡◌, App, app_of, with_subcommand}
+use Rattle.std.specs.Prelude.{◌≡◌}
+use Rattle.command_line.specs.{App, app_of, with_subcommand}
 use Rattle.command_line.proofs.Words.{◌∙◌, IfOk-weaker, ap}
 use Rattle.command_line.proofs.application.with_job.Goals as goal
 

@@ -1,5 +1,6 @@
 -- What is read is what the parse has of the option.
-use Rattle.command_line.specs.{[], ℕ, ◌≡◌, After, Found, List, Option, all_of, each_said, found_of, matched_of, name_of, option_map, raw_values, rows_of, texts_in, unwrap_or}
+use Rattle.std.specs.Prelude.{◌≡◌}
+use Rattle.command_line.specs.{[], ℕ, After, Found, List, Option, all_of, each_said, found_of, matched_of, name_of, option_map, raw_values, rows_of, texts_in, unwrap_or}
 use Rattle.command_line.proofs.Words.{◌∙◌, IfErr-weaker, IfOk-weaker, ap, inl, inr, raw_values-rows, refl, sym}
 use Rattle.command_line.proofs.delays.delays_in.Goals as goal
 

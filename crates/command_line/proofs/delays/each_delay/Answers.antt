@@ -1,5 +1,6 @@
-use Rattle.command_line.specs.{[], ◌∷◌, delay_of, map, option_map}
-use Rattle.command_line.proofs.Words.{◌+◌, ◌∙◌, ap, inr, map-append, sym}
+use Rattle.std.specs.Prelude.{◌+◌, ◌∷◌}
+use Rattle.command_line.specs.{[], delay_of, map, option_map}
+use Rattle.command_line.proofs.Words.{◌∙◌, ap, inr, map-append, sym}
 use Rattle.command_line.proofs.EachDelay.{behind, each_end, each_none, each_some}
 use Rattle.command_line.proofs.delays.each_delay.Goals as goal
 

@@ -1,4 +1,5 @@
-use Rattle.command_line.specs.{◌++◌, ◌≡◌, delay_of, each_said, map, option_map}
+use Rattle.std.specs.Prelude.{◌++◌, ◌≡◌}
+use Rattle.command_line.specs.{delay_of, each_said, map, option_map}
 use Rattle.command_line.proofs.Words.{drop}
 use Rattle.command_line.proofs.delays.each_delay.Given as goal
 

@@ -1,4 +1,5 @@
-use Rattle.command_line.specs.{ℕ, ◌≡◌, is_plain, true}
+use Rattle.std.specs.Prelude.{◌≡◌}
+use Rattle.command_line.specs.{ℕ, is_plain, true}
 use Rattle.command_line.proofs.Words.{◌∙◌, arith, sym}
 use Rattle.command_line.proofs.Numbers.{none_outside, none_read, not_plain, plain_within}
 use Rattle.command_line.proofs.settings.plain_number.Goals as goal

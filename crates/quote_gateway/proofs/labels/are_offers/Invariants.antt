@@ -1,5 +1,6 @@
 -- The labels of the jobs before the index are those of the plan's offers.
-use Rattle.quote_gateway.specs.{ℕ, ◌<◌, ◌≡◌, labels_in, labels_of}
+use Rattle.std.specs.Prelude.{◌<◌, ◌≡◌}
+use Rattle.quote_gateway.specs.{ℕ, labels_in, labels_of}
 use Rattle.quote_gateway.proofs.Words.{slice_get}
 use Rattle.quote_gateway.proofs.labels.are_offers.Given as goal
 

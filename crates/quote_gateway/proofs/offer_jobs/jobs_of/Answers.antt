@@ -1,4 +1,5 @@
-use Rattle.quote_gateway.specs.{[], ◌∷◌, labels_in}
+use Rattle.std.specs.Prelude.{◌∷◌}
+use Rattle.quote_gateway.specs.{[], labels_in}
 use Rattle.quote_gateway.proofs.Words.{◌∙◌, ap, map-append, sym}
 use Rattle.quote_gateway.proofs.{OfferLabels.no_label, OfferLabels.one_label, offer_jobs.jobs_of.Goals.in-Some+in_ok-push, offer_jobs.jobs_of.Goals.in_default}
 use Rattle.quote_gateway.proofs.offer_jobs.jobs_of.Goals as goal

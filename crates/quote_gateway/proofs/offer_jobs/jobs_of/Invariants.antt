@@ -1,5 +1,6 @@
 -- The labels of the jobs so far are those of the offers before the index.
-use Rattle.quote_gateway.specs.{◌≡◌, label_of, labels_in, map}
+use Rattle.std.specs.Prelude.{◌≡◌}
+use Rattle.quote_gateway.specs.{label_of, labels_in, map}
 use Rattle.quote_gateway.proofs.Words.{take}
 use Rattle.quote_gateway.proofs.offer_jobs.jobs_of.Given as goal
 

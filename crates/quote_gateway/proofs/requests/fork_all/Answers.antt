@@ -1,4 +1,5 @@
-use Rattle.quote_gateway.specs.{[], ◌++◌, ◌∷◌, ◌≡◌, Err, ForkTurnedDown, HasForked, IfErr, IsErrAnd, IsTurnedDown, LabelValue, List, NamedValue, Result, labels_in, nests}
+use Rattle.std.specs.Prelude.{◌++◌, ◌∷◌, ◌≡◌}
+use Rattle.quote_gateway.specs.{[], Err, ForkTurnedDown, HasForked, IfErr, IsErrAnd, IsTurnedDown, LabelValue, List, NamedValue, Result, labels_in, nests}
 use Rattle.quote_gateway.proofs.Words.{◌∙◌, Ok, ap, append_assoc, subst, sym}
 use Rattle.quote_gateway.proofs.{Asking.forked_next, Going.begins_going, Going.sees_on, Going.tokens_on, Reading.chosen, Turned.fork_turned}
 use Rattle.quote_gateway.proofs.requests.fork_all.Goals as goal

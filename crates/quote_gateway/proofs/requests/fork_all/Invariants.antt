@@ -1,5 +1,6 @@
 -- The token has only seen more, the scope stands open, and its tasks are those of the jobs so far.
-use Rattle.quote_gateway.specs.{◌++◌, ◌≡◌, HasForked, KeepsScopes, LabelValue, List, SeesMore, labels_in}
+use Rattle.std.specs.Prelude.{◌++◌, ◌≡◌}
+use Rattle.quote_gateway.specs.{HasForked, KeepsScopes, LabelValue, List, SeesMore, labels_in}
 use Rattle.quote_gateway.proofs.requests.fork_all.Given as goal
 
 abbrev pub invariant-loop-job : goal.invariant-loop-job

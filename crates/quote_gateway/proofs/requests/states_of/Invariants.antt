@@ -1,5 +1,6 @@
 -- The token has only seen more, the scope stands open, and the states so far are those of the tasks so far.
-use Rattle.quote_gateway.specs.{◌≡◌, KeepsTasks, SeesMore, history_seen, listing_by, state}
+use Rattle.std.specs.Prelude.{◌≡◌}
+use Rattle.quote_gateway.specs.{KeepsTasks, SeesMore, history_seen, listing_by, state}
 use Rattle.quote_gateway.proofs.Words.{take}
 use Rattle.quote_gateway.proofs.requests.states_of.Given as goal
 

@@ -1,4 +1,5 @@
-use Rattle.quote_plan.specs.{◌<ℤ◌, ◌≤ℤ◌, IsBestOf, Option, Quote}
+use Rattle.std.specs.Prelude.{◌<ℤ◌, ◌≤ℤ◌}
+use Rattle.quote_plan.specs.{IsBestOf, Option, Quote}
 use Rattle.quote_plan.proofs.Words.{SFits, arith, ints, rules, subst, w64}
 use Rattle.quote_plan.proofs.Best.{new_best, only_best, stays_best}
 use Rattle.quote_plan.proofs.choosing.better.Goals as goal

@@ -1,4 +1,5 @@
-use Rattle.quote_plan.specs.{[], ◌++◌, ◌∷◌}
+use Rattle.std.specs.Prelude.{◌++◌, ◌∷◌}
+use Rattle.quote_plan.specs.{[]}
 use Rattle.quote_plan.proofs.Words.{◌∙◌, ap, arith, sym}
 use Rattle.quote_plan.proofs.{Prices.all_quotes, Prices.no_quote, Prices.one_quote, Prices.start, choosing.quotes.Goals.in-Some+in_ok-push, choosing.quotes.Goals.in_default}
 use Rattle.quote_plan.proofs.choosing.quotes.Goals as goal

@@ -1,5 +1,6 @@
 -- The prices of the offers before the index.
-use Rattle.quote_plan.specs.{◌≡◌, quotes_in, take}
+use Rattle.std.specs.Prelude.{◌≡◌}
+use Rattle.quote_plan.specs.{quotes_in, take}
 use Rattle.quote_plan.proofs.choosing.quotes.Given as goal
 
 abbrev pub invariant-loop-index : goal.invariant-loop-index

@@ -1,4 +1,5 @@
-use Rattle.quote_plan.specs.{[], ◌++◌, ◌∷◌, ◌≡◌, Some, length, slice_get}
+use Rattle.std.specs.Prelude.{◌++◌, ◌∷◌, ◌≡◌}
+use Rattle.quote_plan.specs.{[], Some, length, slice_get}
 use Rattle.quote_plan.proofs.Words.{◌∙◌, ap, arith, refl, slice_get_read, sym}
 use Rattle.quote_plan.proofs.{Prices.none_there, Prices.one_there, Prices.start_there, Prices.whole_there, choosing.quotes_so_far.Goals.in-Some+in_ok-push, choosing.quotes_so_far.Goals.in_default}
 use Rattle.quote_plan.proofs.choosing.quotes_so_far.Goals as goal

@@ -1,4 +1,5 @@
-use Rattle.quote_plan.specs.{◌≡◌, TaskState, length, true}
+use Rattle.std.specs.Prelude.{◌≡◌}
+use Rattle.quote_plan.specs.{TaskState, length, true}
 use Rattle.quote_plan.proofs.Words.{◌∙◌, arith, below_more, eq-eqb, eqb-true, inl, inr, sym}
 use Rattle.quote_plan.proofs.Dues.{state_at}
 use Rattle.quote_plan.proofs.ends.are_due_so_far.Goals as goal

@@ -1,5 +1,6 @@
 -- The tasks before the index ended as their offers say, if they have ended.
-use Rattle.quote_plan.specs.{ℕ, ◌<◌, ◌≡◌, ◌⊎◌, Some, Unavailable, dues_of, slice_get, states_of}
+use Rattle.std.specs.Prelude.{◌<◌, ◌≡◌, ◌⊎◌}
+use Rattle.quote_plan.specs.{ℕ, Some, Unavailable, dues_of, slice_get, states_of}
 use Rattle.quote_plan.proofs.ends.are_due_so_far.Given as goal
 
 abbrev pub invariant-loop-index : goal.invariant-loop-index

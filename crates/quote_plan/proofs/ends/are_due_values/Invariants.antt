@@ -1,5 +1,6 @@
 -- The tasks before the index ended as their offers say.
-use Rattle.quote_plan.specs.{ℕ, ◌<◌, ◌≡◌, dues_of, slice_get, states_of_values}
+use Rattle.std.specs.Prelude.{◌<◌, ◌≡◌}
+use Rattle.quote_plan.specs.{ℕ, dues_of, slice_get, states_of_values}
 use Rattle.quote_plan.proofs.ends.are_due_values.Given as goal
 
 abbrev pub invariant-loop-index : goal.invariant-loop-index

@@ -1,4 +1,5 @@
-use Rattle.quote_plan.specs.{[], ◌∷◌, ◌≡◌, BadWord, Ok, ReadingValue, lines_of, why_of}
+use Rattle.std.specs.Prelude.{◌∷◌, ◌≡◌}
+use Rattle.quote_plan.specs.{[], BadWord, Ok, ReadingValue, lines_of, why_of}
 use Rattle.quote_plan.proofs.Words.{◌∙◌, ap, arith, refl, sym}
 use Rattle.quote_plan.proofs.Causes.{cut_on, last_cut, last_none, nothing_cut, why_here, why_there}
 use Rattle.quote_plan.proofs.Progress.{all_said, cut_line, first_bad, goes_on, next_line, no_line, no_mode, nothing_read, refused}

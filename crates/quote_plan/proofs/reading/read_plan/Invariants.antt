@@ -1,5 +1,6 @@
 -- The lines before the rest were read.
-use Rattle.quote_plan.specs.{◌+◌, ◌≤◌, length}
+use Rattle.std.specs.Prelude.{◌+◌, ◌≤◌}
+use Rattle.quote_plan.specs.{length}
 use Rattle.quote_plan.proofs.{Causes.HasCut, Progress.HasRead}
 use Rattle.quote_plan.proofs.reading.read_plan.Given as goal
 

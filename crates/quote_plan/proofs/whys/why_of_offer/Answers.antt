@@ -1,4 +1,5 @@
-use Rattle.quote_plan.specs.{◌≡◌, BadName, NoForm, Some, fields, is_none, why_of_offer}
+use Rattle.std.specs.Prelude.{◌≡◌}
+use Rattle.quote_plan.specs.{BadName, NoForm, Some, fields, is_none, why_of_offer}
 use Rattle.quote_plan.proofs.Words.{◌∙◌, ap, rules}
 use Rattle.quote_plan.proofs.GoodForms.{offer_tells}
 use Rattle.quote_plan.proofs.whys.why_of_offer.Goals as goal

@@ -1,5 +1,6 @@
 -- The walk sees each close that covers the scope.
-use Rattle.refusal_reasons.specs.{◌<◌, ◌≡◌, History, IfSome, Legal, None, begun_place, earlier, if_after, inner, length}
+use Rattle.std.specs.Prelude.{◌<◌, ◌≡◌}
+use Rattle.refusal_reasons.specs.{History, IfSome, Legal, None, begun_place, earlier, if_after, inner, length}
 use Rattle.refusal_reasons.proofs.Lemmas.{◌∙◌, ap, subst, sym}
 use Rattle.refusal_reasons.proofs.Closings.{Seen, ends_seen, fewer_left, first_within, never_closing, none_seen, numbers_left, one_seen, passed_seen}
 use Rattle.refusal_reasons.proofs.places.closing_place.Goals as goal

@@ -1,5 +1,6 @@
 -- No task so far waits or runs.
-use Rattle.refusal_reasons.specs.{◌≡◌, None, find, is_pending, take, tasks_of}
+use Rattle.std.specs.Prelude.{◌≡◌}
+use Rattle.refusal_reasons.specs.{None, find, is_pending, take, tasks_of}
 use Rattle.refusal_reasons.proofs.places.pending_task.Given as goal
 
 abbrev pub invariant-loop-index : goal.invariant-loop-index

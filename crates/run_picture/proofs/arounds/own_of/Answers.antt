@@ -1,5 +1,6 @@
 -- The scope's place among those since the base.
-use Rattle.run_picture.specs.{◌-◌, ◌<◌, ◌≡◌, None, get_or, length, own_around}
+use Rattle.std.specs.Prelude.{◌-◌, ◌<◌, ◌≡◌}
+use Rattle.run_picture.specs.{None, get_or, length, own_around}
 use Rattle.run_picture.proofs.Lemmas.{◌∙◌, ap, arith, get_or_default, index_of}
 use Rattle.run_picture.proofs.arounds.own_of.Goals as goal
 

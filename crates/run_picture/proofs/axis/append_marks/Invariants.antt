@@ -1,5 +1,6 @@
 -- The marks so far.
-use Rattle.run_picture.specs.{◌++◌, ◌≡◌, all, axis_mark, mark_in, range_with_len, sheet_of, string_bytes, written}
+use Rattle.std.specs.Prelude.{◌++◌, ◌≡◌}
+use Rattle.run_picture.specs.{all, axis_mark, mark_in, range_with_len, sheet_of, string_bytes, written}
 use Rattle.run_picture.proofs.axis.append_marks.Given as goal
 
 abbrev pub invariant-loop-index : goal.invariant-loop-index

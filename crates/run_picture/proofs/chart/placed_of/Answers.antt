@@ -1,5 +1,6 @@
 -- The keys are those of nodes, and the tables those of their forest.
-use Rattle.run_picture.specs.{◌++◌, IsForestOf, children, chosen_rows}
+use Rattle.std.specs.Prelude.{◌++◌}
+use Rattle.run_picture.specs.{IsForestOf, children, chosen_rows}
 use Rattle.run_picture.proofs.Lemmas.{◌∙◌, ap, subst}
 use Rattle.run_picture.proofs.{Noded.keys_are, Showing.child_table, Showing.sibling_table}
 use Rattle.run_picture.proofs.chart.placed_of.Goals as goal

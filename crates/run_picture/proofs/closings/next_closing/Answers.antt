@@ -1,5 +1,6 @@
 -- What closes a scope, by what is kept of the scope around it.
-use Rattle.run_picture.specs.{ℕ, ◌+◌, ◌≡◌, None, Option, Some, begins_to_close, length, own_around, sooner}
+use Rattle.std.specs.Prelude.{◌+◌, ◌≡◌}
+use Rattle.run_picture.specs.{ℕ, None, Option, Some, begins_to_close, length, own_around, sooner}
 use Rattle.run_picture.proofs.Lemmas.{◌∙◌, ap, arith, refl, sym}
 use Rattle.run_picture.proofs.Covered.{begins_next, own_index}
 use Rattle.run_picture.proofs.closings.next_closing.Goals as goal

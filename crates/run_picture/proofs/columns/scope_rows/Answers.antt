@@ -1,5 +1,6 @@
 -- Each number since the base has its row.
-use Rattle.run_picture.specs.{[], ◌++◌, ◌+◌, ◌∷◌, ◌≡◌, IsScopeRow, None, ScopeRow, is_some, length, opening, slice_get}
+use Rattle.std.specs.Prelude.{◌++◌, ◌+◌, ◌∷◌, ◌≡◌}
+use Rattle.run_picture.specs.{[], IsScopeRow, None, ScopeRow, is_some, length, opening, slice_get}
 use Rattle.run_picture.proofs.Lemmas.{◌∙◌, ap, arith, length-append, subst, sym}
 use Rattle.run_picture.proofs.Existing.{opened_there, rows_more}
 use Rattle.run_picture.proofs.columns.scope_rows.Goals as goal

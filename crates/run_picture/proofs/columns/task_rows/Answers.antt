@@ -1,5 +1,6 @@
 -- Each number since the base has its row.
-use Rattle.run_picture.specs.{[], ◌++◌, ◌+◌, ◌∷◌, ◌≡◌, IsTaskRow, None, TaskRow, forking, is_some, length, slice_get}
+use Rattle.std.specs.Prelude.{◌++◌, ◌+◌, ◌∷◌, ◌≡◌}
+use Rattle.run_picture.specs.{[], IsTaskRow, None, TaskRow, forking, is_some, length, slice_get}
 use Rattle.run_picture.proofs.Lemmas.{◌∙◌, ap, arith, length-append, subst, sym}
 use Rattle.run_picture.proofs.Existing.{forked_there, rows_more}
 use Rattle.run_picture.proofs.columns.task_rows.Goals as goal

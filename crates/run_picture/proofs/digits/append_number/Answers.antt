@@ -1,5 +1,6 @@
 -- A digit more, and the rest without it.
-use Rattle.run_picture.specs.{[], ℕ, ◌%◌, ◌++◌, ◌+◌, ◌/◌, ◌∷◌, ◌≡◌, List, number_text, string_bytes}
+use Rattle.std.specs.Prelude.{◌%◌, ◌++◌, ◌+◌, ◌/◌, ◌∷◌, ◌≡◌}
+use Rattle.run_picture.specs.{[], ℕ, List, number_text, string_bytes}
 use Rattle.run_picture.proofs.Lemmas.{◌∙◌, ap, append_assoc, arith, sym}
 use Rattle.run_picture.proofs.Written.{number_last, number_more}
 use Rattle.run_picture.proofs.digits.append_number.Goals as goal

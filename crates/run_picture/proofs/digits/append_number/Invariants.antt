@@ -1,5 +1,6 @@
 -- What is written and the rest give the whole.
-use Rattle.run_picture.specs.{◌++◌, ◌≡◌, number_text, string_bytes}
+use Rattle.std.specs.Prelude.{◌++◌, ◌≡◌}
+use Rattle.run_picture.specs.{number_text, string_bytes}
 use Rattle.run_picture.proofs.digits.append_number.Given as goal
 
 abbrev pub invariant-loop-rest : goal.invariant-loop-rest

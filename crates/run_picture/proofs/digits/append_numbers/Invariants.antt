@@ -1,5 +1,6 @@
 -- The numbers so far.
-use Rattle.run_picture.specs.{◌++◌, ◌≡◌, each_text, get_or, number_text, string_bytes}
+use Rattle.std.specs.Prelude.{◌++◌, ◌≡◌}
+use Rattle.run_picture.specs.{each_text, get_or, number_text, string_bytes}
 use Rattle.run_picture.proofs.digits.append_numbers.Given as goal
 
 abbrev pub invariant-loop-index : goal.invariant-loop-index

@@ -1,5 +1,6 @@
 -- One row more, with what lies below it; and none are left at the end.
-use Rattle.run_picture.specs.{◌≡◌, rows_from}
+use Rattle.std.specs.Prelude.{◌≡◌}
+use Rattle.run_picture.specs.{rows_from}
 use Rattle.run_picture.proofs.Lemmas.{◌∙◌, ap, arith}
 use Rattle.run_picture.proofs.Planted.{rows_end, rows_none, rows_step, rows_zero}
 use Rattle.run_picture.proofs.forest.+append_rows.Goals as goal

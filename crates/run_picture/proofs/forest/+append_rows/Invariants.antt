@@ -1,5 +1,6 @@
 -- The rows so far, and those that follow.
-use Rattle.run_picture.specs.{◌++◌, ◌≡◌, ◌≤◌, rows_from}
+use Rattle.std.specs.Prelude.{◌++◌, ◌≡◌, ◌≤◌}
+use Rattle.run_picture.specs.{rows_from}
 use Rattle.run_picture.proofs.forest.+append_rows.Given as goal
 
 abbrev pub decreases-append_rows : goal.decreases-append_rows

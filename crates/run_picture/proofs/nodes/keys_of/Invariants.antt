@@ -1,5 +1,6 @@
 -- Those of the tasks so far, and then those of the scopes so far.
-use Rattle.run_picture.specs.{◌++◌, ◌≡◌, forked_count, scope_keys, task_keys}
+use Rattle.std.specs.Prelude.{◌++◌, ◌≡◌}
+use Rattle.run_picture.specs.{forked_count, scope_keys, task_keys}
 use Rattle.run_picture.proofs.nodes.keys_of.Given as goal
 
 abbrev pub invariant-loop-index : goal.invariant-loop-index

@@ -1,5 +1,6 @@
 -- Those so far.
-use Rattle.run_picture.specs.{◌++◌, ◌≡◌, each_text, event_text, string_bytes}
+use Rattle.std.specs.Prelude.{◌++◌, ◌≡◌}
+use Rattle.run_picture.specs.{each_text, event_text, string_bytes}
 use Rattle.run_picture.proofs.page.append_events.Given as goal
 
 abbrev pub invariant-loop-index : goal.invariant-loop-index

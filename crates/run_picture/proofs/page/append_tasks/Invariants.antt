@@ -1,5 +1,6 @@
 -- Those so far.
-use Rattle.run_picture.specs.{◌++◌, ◌≡◌, each_text, string_bytes, task_text}
+use Rattle.std.specs.Prelude.{◌++◌, ◌≡◌}
+use Rattle.run_picture.specs.{each_text, string_bytes, task_text}
 use Rattle.run_picture.proofs.page.append_tasks.Given as goal
 
 abbrev pub invariant-loop-index : goal.invariant-loop-index

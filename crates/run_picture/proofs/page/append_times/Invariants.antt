@@ -1,5 +1,6 @@
 -- Those so far.
-use Rattle.run_picture.specs.{◌++◌, ◌≡◌, each_text, string_bytes, time_text}
+use Rattle.std.specs.Prelude.{◌++◌, ◌≡◌}
+use Rattle.run_picture.specs.{each_text, string_bytes, time_text}
 use Rattle.run_picture.proofs.page.append_times.Given as goal
 
 abbrev pub invariant-loop-index : goal.invariant-loop-index

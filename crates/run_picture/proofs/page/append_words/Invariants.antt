@@ -1,5 +1,6 @@
 -- Those so far.
-use Rattle.run_picture.specs.{◌++◌, ◌≡◌, each_text, string_bytes, word_at}
+use Rattle.std.specs.Prelude.{◌++◌, ◌≡◌}
+use Rattle.run_picture.specs.{each_text, string_bytes, word_at}
 use Rattle.run_picture.proofs.page.append_words.Given as goal
 
 abbrev pub invariant-loop-index : goal.invariant-loop-index

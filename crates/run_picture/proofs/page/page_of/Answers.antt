@@ -1,5 +1,6 @@
 -- The parts, one after the other.
-use Rattle.run_picture.specs.{ℕ, ◌++◌, ◌≡◌, AreWordsOf, Event, List, PAGE_DRAWING, PAGE_HEAD, PAGE_MODEL, TaskRow, Wanted, columns_text, lines_text, rows_text}
+use Rattle.std.specs.Prelude.{◌++◌, ◌≡◌}
+use Rattle.run_picture.specs.{ℕ, AreWordsOf, Event, List, PAGE_DRAWING, PAGE_HEAD, PAGE_MODEL, TaskRow, Wanted, columns_text, lines_text, rows_text}
 use Rattle.run_picture.proofs.Lemmas.{◌∙◌, ap, append_assoc, subst}
 use Rattle.run_picture.proofs.page.page_of.Goals as goal
 

@@ -1,5 +1,6 @@
 -- Another event is not written.
-use Rattle.run_picture.specs.{[], ℕ, ◌++◌, ◌∷◌, ◌≡◌, Event, List, None, Some, event_numbers, event_text, length, moved, moved_numbers, numbers_text, option_map_or, slice_get, small_place}
+use Rattle.std.specs.Prelude.{◌++◌, ◌∷◌, ◌≡◌}
+use Rattle.run_picture.specs.{[], ℕ, Event, List, None, Some, event_numbers, event_text, length, moved, moved_numbers, numbers_text, option_map_or, slice_get, small_place}
 use Rattle.run_picture.specs.{string_bytes, tick_of}
 use Rattle.run_picture.proofs.Lemmas.{◌∙◌, ap, append-nil, refl, slice_get_read, sym}
 use Rattle.run_picture.proofs.Written.{each_none}

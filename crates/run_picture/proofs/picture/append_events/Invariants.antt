@@ -1,5 +1,6 @@
 -- Those so far.
-use Rattle.run_picture.specs.{◌++◌, ◌≡◌, all, event_figures, range_with_len, sheet_of, shown, string_bytes}
+use Rattle.std.specs.Prelude.{◌++◌, ◌≡◌}
+use Rattle.run_picture.specs.{all, event_figures, range_with_len, sheet_of, shown, string_bytes}
 use Rattle.run_picture.proofs.picture.append_events.Given as goal
 
 abbrev pub invariant-loop-place : goal.invariant-loop-place

@@ -1,5 +1,6 @@
 -- Those so far.
-use Rattle.run_picture.specs.{◌++◌, ◌≡◌, all, range_with_len, row_at, sheet_of, shown, string_bytes}
+use Rattle.std.specs.Prelude.{◌++◌, ◌≡◌}
+use Rattle.run_picture.specs.{all, range_with_len, row_at, sheet_of, shown, string_bytes}
 use Rattle.run_picture.proofs.picture.append_rows_of.Given as goal
 
 abbrev pub invariant-loop-index : goal.invariant-loop-index

@@ -1,5 +1,6 @@
 -- Those with the numbers so far.
-use Rattle.run_picture.specs.{◌++◌, ◌+◌, ◌≡◌, all, range_with_len, sheet_of, shield_figures, shown, string_bytes}
+use Rattle.std.specs.Prelude.{◌++◌, ◌+◌, ◌≡◌}
+use Rattle.run_picture.specs.{all, range_with_len, sheet_of, shield_figures, shown, string_bytes}
 use Rattle.run_picture.proofs.picture.append_shields.Given as goal
 
 abbrev pub invariant-loop-index : goal.invariant-loop-index

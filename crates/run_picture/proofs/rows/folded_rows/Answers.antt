@@ -1,5 +1,6 @@
 -- One node more.
-use Rattle.run_picture.specs.{[], ◌≡◌, Placed, folded_from, folded_in, get_or, length, nat_le}
+use Rattle.std.specs.Prelude.{◌≡◌}
+use Rattle.run_picture.specs.{[], Placed, folded_from, folded_in, get_or, length, nat_le}
 use Rattle.run_picture.proofs.Lemmas.{◌∙◌, ap, arith, slice_get-get_or, sym, take}
 use Rattle.run_picture.proofs.Folding.{folded_more}
 use Rattle.run_picture.proofs.rows.folded_rows.Goals as goal

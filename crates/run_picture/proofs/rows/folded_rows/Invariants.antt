@@ -1,5 +1,6 @@
 -- The rows so far.
-use Rattle.run_picture.specs.{[], ◌≡◌, folded_from}
+use Rattle.std.specs.Prelude.{◌≡◌}
+use Rattle.run_picture.specs.{[], folded_from}
 use Rattle.run_picture.proofs.Lemmas.{take}
 use Rattle.run_picture.proofs.rows.folded_rows.Given as goal
 

@@ -1,5 +1,6 @@
 -- The rows so far.
-use Rattle.run_picture.specs.{◌≡◌, map, plain}
+use Rattle.std.specs.Prelude.{◌≡◌}
+use Rattle.run_picture.specs.{map, plain}
 use Rattle.run_picture.proofs.Lemmas.{take}
 use Rattle.run_picture.proofs.rows.plain_rows.Given as goal
 

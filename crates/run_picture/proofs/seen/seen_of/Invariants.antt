@@ -1,5 +1,6 @@
 -- The nodes so far.
-use Rattle.run_picture.specs.{◌≡◌, seen_rows}
+use Rattle.std.specs.Prelude.{◌≡◌}
+use Rattle.run_picture.specs.{seen_rows}
 use Rattle.run_picture.proofs.Lemmas.{take}
 use Rattle.run_picture.proofs.seen.seen_of.Given as goal
 

@@ -1,5 +1,6 @@
 -- The row that is kept for the node is the first one.
-use Rattle.run_picture.specs.{ℕ, ◌<◌, ◌≡◌, History, None, Option, Sheet.Sheet, cond, drawn_rows, length, node_count, row_of, scope_node, scope_row, sheet_of}
+use Rattle.std.specs.Prelude.{◌<◌, ◌≡◌}
+use Rattle.run_picture.specs.{ℕ, History, None, Option, Sheet.Sheet, cond, drawn_rows, length, node_count, row_of, scope_node, scope_row, sheet_of}
 use Rattle.run_picture.proofs.Lemmas.{◌∙◌, ap, arith, get_or_default, lt-ltb, sym}
 use Rattle.run_picture.proofs.sites.scope_row.Goals as goal
 

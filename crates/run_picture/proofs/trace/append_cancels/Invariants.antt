@@ -1,5 +1,6 @@
 -- Those with the numbers so far.
-use Rattle.run_picture.specs.{◌++◌, ◌+◌, ◌≡◌, all, cancel_records, range_with_len, record_text, string_bytes, written}
+use Rattle.std.specs.Prelude.{◌++◌, ◌+◌, ◌≡◌}
+use Rattle.run_picture.specs.{all, cancel_records, range_with_len, record_text, string_bytes, written}
 use Rattle.run_picture.proofs.trace.append_cancels.Given as goal
 
 abbrev pub invariant-loop-index : goal.invariant-loop-index

@@ -1,5 +1,6 @@
 -- Those with the numbers so far.
-use Rattle.run_picture.specs.{◌++◌, ◌+◌, ◌≡◌, all, range_with_len, record_text, string_bytes, task_records, written}
+use Rattle.std.specs.Prelude.{◌++◌, ◌+◌, ◌≡◌}
+use Rattle.run_picture.specs.{all, range_with_len, record_text, string_bytes, task_records, written}
 use Rattle.run_picture.proofs.trace.append_tasks.Given as goal
 
 abbrev pub invariant-loop-index : goal.invariant-loop-index

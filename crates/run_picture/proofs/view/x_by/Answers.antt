@@ -1,5 +1,5 @@
 -- The product of a time and a width is small.
-use Rattle.run_picture.specs.{◌-◌, ◌≤◌}
+use Rattle.std.specs.Prelude.{◌-◌, ◌≤◌}
 use Rattle.run_picture.proofs.Lemmas.{arith, mul-le-mul}
 use Rattle.run_picture.proofs.view.x_by.Goals as goal
 

@@ -1,5 +1,6 @@
 -- The words that were found stay, and one more is found.
-use Rattle.run_picture.specs.{[], ℕ, ◌++◌, ◌+◌, ◌<◌, ◌∷◌, ◌≡◌, AreWordsTo, Finds, List, Option, Some, TaskRow, Value, Wanted, get_or, length, slice_get, word_of}
+use Rattle.std.specs.Prelude.{◌++◌, ◌+◌, ◌<◌, ◌∷◌, ◌≡◌}
+use Rattle.run_picture.specs.{[], ℕ, AreWordsTo, Finds, List, Option, Some, TaskRow, Value, Wanted, get_or, length, slice_get, word_of}
 use Rattle.run_picture.proofs.Lemmas.{◌∙◌, ap, arith, cases_eq, get_or-append-add, get_or_append_left, inl, inr, length-append, refl, slice_get_read, subst, sym}
 use Rattle.run_picture.proofs.words.words_of.Goals as goal
 

@@ -1,4 +1,5 @@
-use Rattle.scopectl.specs.{◌≡◌, ◌⊎◌, CameFrom, Err, ProgramFault, Write, false, true}
+use Rattle.std.specs.Prelude.{◌≡◌, ◌⊎◌}
+use Rattle.scopectl.specs.{CameFrom, Err, ProgramFault, Write, false, true}
 use Rattle.scopectl.proofs.Words.{◌∙◌, ap, subst, sym}
 use Rattle.scopectl.proofs.Jobs.{came_of, page_made, page_stopped, page_told_part, page_whole, read_is_other, sound_at, write_is_other}
 use Rattle.scopectl.proofs.act.page.Goals as goal

@@ -1,4 +1,5 @@
-use Rattle.scopectl.specs.{ℕ, ◌≡◌, ◌⊎◌, AppendsPart, CameFrom, Err, List, OfNotes, ProgramFault, false, true}
+use Rattle.std.specs.Prelude.{◌≡◌, ◌⊎◌}
+use Rattle.scopectl.specs.{ℕ, AppendsPart, CameFrom, Err, List, OfNotes, ProgramFault, false, true}
 use Rattle.scopectl.proofs.Words.{◌∙◌, ap, subst, sym}
 use Rattle.scopectl.proofs.Jobs.{came_of_noted, noted_kept, noted_part, notes_are, read_no_memory, replay_noted, sound_noted, write_no_memory}
 use Rattle.scopectl.proofs.act.replay_noted.Goals as goal

@@ -1,4 +1,5 @@
-use Rattle.scopectl.specs.{◌≡◌, ◌⊎◌, CameFrom, Err, ProgramFault, false, true}
+use Rattle.std.specs.Prelude.{◌≡◌, ◌⊎◌}
+use Rattle.scopectl.specs.{CameFrom, Err, ProgramFault, false, true}
 use Rattle.scopectl.proofs.Words.{◌∙◌, ap, subst, sym}
 use Rattle.scopectl.proofs.Jobs.{came_of, read_is_other, replay_whole, replayed_part, sound_at, write_is_other}
 use Rattle.scopectl.proofs.act.replay_plainly.Goals as goal

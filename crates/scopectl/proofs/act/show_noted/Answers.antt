@@ -1,4 +1,5 @@
-use Rattle.scopectl.specs.{[], ℕ, ◌≡◌, ◌⊎◌, CameFrom, Count, Err, Limits, List, OfNotes, Option, ProgramFault, Refusals, ShowedNoted, Turn, View, Write, false, true}
+use Rattle.std.specs.Prelude.{◌≡◌, ◌⊎◌}
+use Rattle.scopectl.specs.{[], ℕ, CameFrom, Count, Err, Limits, List, OfNotes, Option, ProgramFault, Refusals, ShowedNoted, Turn, View, Write, false, true}
 use Rattle.scopectl.proofs.Words.{◌∙◌, ap, append-nil, subst, sym}
 use Rattle.scopectl.proofs.Jobs.{came_of_noted, made, noted_kept, read_no_memory, sound_noted, view_noted, view_stopped_noted, view_told_part, write_no_memory}
 use Rattle.scopectl.proofs.act.show_noted.Goals as goal

@@ -1,4 +1,5 @@
-use Rattle.scopectl.specs.{ℕ, ◌≡◌, ◌⊎◌, CameFrom, Count, Err, Limits, List, Option, ProgramFault, Showed, View, Write, false, true}
+use Rattle.std.specs.Prelude.{◌≡◌, ◌⊎◌}
+use Rattle.scopectl.specs.{ℕ, CameFrom, Count, Err, Limits, List, Option, ProgramFault, Showed, View, Write, false, true}
 use Rattle.scopectl.proofs.Words.{◌∙◌, ap, subst, sym}
 use Rattle.scopectl.proofs.Jobs.{came_of, made, read_is_other, sound_at, view_stopped, view_told_part, view_whole, write_is_other}
 use Rattle.scopectl.proofs.act.show_plainly.Goals as goal

@@ -1,4 +1,5 @@
-use Rattle.scopectl.specs.{◌+◌, ◌||◌, drop, list_any, same_name}
+use Rattle.std.specs.Prelude.{◌+◌, ◌||◌}
+use Rattle.scopectl.specs.{drop, list_any, same_name}
 use Rattle.scopectl.proofs.Words.{◌∙◌, ap, arith, sym}
 use Rattle.scopectl.proofs.Quoted.{none_left, one_left}
 use Rattle.scopectl.proofs.quoting.+has_offer_from.Goals as goal

@@ -1,4 +1,5 @@
-use Rattle.scopectl.specs.{◌++◌, ◌≡◌, ◌⊎◌, CameFrom, IsBadLine, ProgramFault, false, true}
+use Rattle.std.specs.Prelude.{◌++◌, ◌≡◌, ◌⊎◌}
+use Rattle.scopectl.specs.{CameFrom, IsBadLine, ProgramFault, false, true}
 use Rattle.scopectl.proofs.Words.{◌∙◌, Consumes-trans, arith, subst, sym, take}
 use Rattle.scopectl.proofs.Quoted.{at_end, bad_at_end, bad_early}
 use Rattle.scopectl.proofs.quoting.read_from.Goals as goal

@@ -1,5 +1,6 @@
 -- What was read so far was taken.
-use Rattle.scopectl.specs.{ℕ, ◌-◌, ◌<◌, ◌≡◌, Consumes, HasTaken, List, false, length}
+use Rattle.std.specs.Prelude.{◌-◌, ◌<◌, ◌≡◌}
+use Rattle.scopectl.specs.{ℕ, Consumes, HasTaken, List, false, length}
 use Rattle.scopectl.proofs.quoting.read_from.Given as goal
 
 abbrev pub decreases-reading : goal.decreases-reading

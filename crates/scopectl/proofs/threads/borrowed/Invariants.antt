@@ -1,5 +1,6 @@
 -- The words so far are borrowed.
-use Rattle.scopectl.specs.{◌≡◌, map, string_bytes}
+use Rattle.std.specs.Prelude.{◌≡◌}
+use Rattle.scopectl.specs.{map, string_bytes}
 use Rattle.scopectl.proofs.Words.{take}
 use Rattle.scopectl.proofs.threads.borrowed.Given as goal
 

@@ -1,5 +1,6 @@
 -- The times so far come before the moment.
-use Rattle.script_jobs.specs.{◌+◌, ◌≡◌, count_before, length}
+use Rattle.std.specs.Prelude.{◌+◌, ◌≡◌}
+use Rattle.script_jobs.specs.{count_before, length}
 use Rattle.script_jobs.proofs.between.count_before.Given as goal
 
 abbrev pub decreases-loop-time : goal.decreases-loop-time

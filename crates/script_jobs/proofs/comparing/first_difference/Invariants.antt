@@ -1,5 +1,6 @@
 -- The lines so far are the same.
-use Rattle.script_jobs.specs.{◌+◌, ◌≤◌, length}
+use Rattle.std.specs.Prelude.{◌+◌, ◌≤◌}
+use Rattle.script_jobs.specs.{length}
 use Rattle.script_jobs.proofs.Compared.{SameSoFar}
 use Rattle.script_jobs.proofs.comparing.first_difference.Given as goal
 

@@ -1,5 +1,6 @@
 -- What is noted so far was written.
-use Rattle.script_jobs.specs.{◌≡◌, Limits, length, noted_of, notes_begin}
+use Rattle.std.specs.Prelude.{◌≡◌}
+use Rattle.script_jobs.specs.{Limits, length, noted_of, notes_begin}
 use Rattle.script_jobs.proofs.PieceByPiece.{NotedUpTo}
 use Rattle.script_jobs.proofs.explained.write_pieces.Given as goal
 

@@ -1,5 +1,6 @@
 -- All that was read so far was answered and noted, and no stream has failed.
-use Rattle.script_jobs.specs.{[], ◌-◌, ◌<◌, ◌≡◌, Limits, begins, false, length, noted_of, plain_of}
+use Rattle.std.specs.Prelude.{◌-◌, ◌<◌, ◌≡◌}
+use Rattle.script_jobs.specs.{[], Limits, begins, false, length, noted_of, plain_of}
 use Rattle.script_jobs.proofs.Running.{UnderWay}
 use Rattle.script_jobs.proofs.noting.read_pieces.Given as goal
 

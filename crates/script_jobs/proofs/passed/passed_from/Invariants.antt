@@ -1,5 +1,6 @@
 -- So many were counted as were looked at.
-use Rattle.script_jobs.specs.{◌≡◌, ArePassed}
+use Rattle.std.specs.Prelude.{◌≡◌}
+use Rattle.script_jobs.specs.{ArePassed}
 use Rattle.script_jobs.proofs.passed.passed_from.Given as goal
 
 abbrev pub invariant-loop-index : goal.invariant-loop-index

@@ -1,4 +1,5 @@
-use Rattle.script_jobs.specs.{◌≤◌, length}
+use Rattle.std.specs.Prelude.{◌≤◌}
+use Rattle.script_jobs.specs.{length}
 use Rattle.script_jobs.proofs.prompting.before_last.Given as goal
 
 abbrev pub decreases-loop-count : goal.decreases-loop-count

@@ -1,5 +1,6 @@
 -- None of the lines so far has a reading.
-use Rattle.script_jobs.specs.{[], ◌≡◌, ended_lines, has_reading, length}
+use Rattle.std.specs.Prelude.{◌≡◌}
+use Rattle.script_jobs.specs.{[], ended_lines, has_reading, length}
 use Rattle.script_jobs.proofs.times.has_reading.Given as goal
 
 abbrev pub decreases-loop-line : goal.decreases-loop-line

@@ -1,5 +1,6 @@
 -- One line more.
-use Rattle.script_jobs.specs.{◌≡◌, length, realm_of}
+use Rattle.std.specs.Prelude.{◌≡◌}
+use Rattle.script_jobs.specs.{length, realm_of}
 use Rattle.script_jobs.proofs.Timed.{all_stamped, one_stamped}
 use Rattle.script_jobs.proofs.times.read_stamps.Goals as goal
 

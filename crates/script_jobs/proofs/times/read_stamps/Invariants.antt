@@ -1,5 +1,6 @@
 -- The times of the lines so far, and those of the rest, are those of all.
-use Rattle.script_jobs.specs.{[], ◌≡◌, ended_lines, length, realm_of, stamps_from, starting, the_start}
+use Rattle.std.specs.Prelude.{◌≡◌}
+use Rattle.script_jobs.specs.{[], ended_lines, length, realm_of, stamps_from, starting, the_start}
 use Rattle.script_jobs.proofs.times.read_stamps.Given as goal
 
 abbrev pub decreases-loop-line : goal.decreases-loop-line

@@ -1,5 +1,6 @@
 -- What was read so far is kept.
-use Rattle.script_jobs.specs.{◌-◌, ◌<◌, ◌≡◌, Consumes, false, length}
+use Rattle.std.specs.Prelude.{◌-◌, ◌<◌, ◌≡◌}
+use Rattle.script_jobs.specs.{Consumes, false, length}
 use Rattle.script_jobs.proofs.whole.read_whole.Given as goal
 
 abbrev pub decreases-reading : goal.decreases-reading

@@ -1,5 +1,6 @@
 -- The moment is never before 0.
-use Rattle.quote_gateway.specs.{◌≤◌, history_seen, moment}
+use Rattle.std.specs.Prelude.{◌≤◌}
+use Rattle.quote_gateway.specs.{history_seen, moment}
 use Rattle.quote_gateway.proofs.Words.{arith}
 use Rattle.quote_gateway.proofs.Telling.{on_ok_so}
 use Rattle.quote_gateway.proofs.until.UntimedUntilUnit.answer.Goals as goal

@@ -1,4 +1,5 @@
-use Rattle.quote_plan.specs.{◌==◌, HasTaken, length}
+use Rattle.std.specs.Prelude.{◌==◌}
+use Rattle.quote_plan.specs.{HasTaken, length}
 use Rattle.quote_plan.proofs.Words.{◌∙◌, ap, subst, sym}
 use Rattle.quote_plan.proofs.Passing.{ends_cut, ends_well, ends_without_mode, no_bytes}
 use Rattle.quote_plan.proofs.readers.PlanReader.finish.Goals as goal

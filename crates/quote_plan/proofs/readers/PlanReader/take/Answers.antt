@@ -1,4 +1,5 @@
-use Rattle.quote_plan.specs.{◌++◌, PlanSoFar, StandsFor}
+use Rattle.std.specs.Prelude.{◌++◌}
+use Rattle.quote_plan.specs.{PlanSoFar, StandsFor}
 use Rattle.quote_plan.proofs.Words.{ap, subst, sym}
 use Rattle.quote_plan.proofs.Passing.{bad_more, line_more, rest_begun}
 use Rattle.quote_plan.proofs.readers.PlanReader.take.Goals as goal

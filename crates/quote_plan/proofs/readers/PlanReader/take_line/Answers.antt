@@ -1,4 +1,5 @@
-use Rattle.quote_plan.specs.{[], ◌++◌, ◌≡◌, HasTaken, StandsFor, same}
+use Rattle.std.specs.Prelude.{◌++◌, ◌≡◌}
+use Rattle.quote_plan.specs.{[], HasTaken, StandsFor, same}
 use Rattle.quote_plan.proofs.Words.{◌∙◌, IfErr-weaker, ap, on_ok_weaker, subst, sym}
 use Rattle.quote_plan.proofs.Passing.{line_ends, line_is_bad, line_is_none, line_is_plain, no_bytes}
 use Rattle.quote_plan.proofs.readers.PlanReader.take_line.Goals as goal

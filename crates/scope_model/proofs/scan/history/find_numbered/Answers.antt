@@ -1,5 +1,6 @@
 -- Each step of the search for the number is one of those in `Openings`.
-use Rattle.scope_model.specs.{◌<◌, is_some, length}
+use Rattle.std.specs.Prelude.{◌<◌}
+use Rattle.scope_model.specs.{is_some, length}
 use Rattle.scope_model.proofs.Words.{◌∙◌, ap, arith, searched_all, searched_at, searched_found, searched_other, searched_wrong, sym}
 use Rattle.scope_model.proofs.scan.history.find_numbered.Goals.{in-Some+else-given-wanted, in_default}
 use Rattle.scope_model.proofs.scan.history.find_numbered.Goals as goal

@@ -1,4 +1,5 @@
-use Rattle.script_jobs.specs.{◌++◌, ◌+◌, ◌-◌, ◌≡◌, ◌≤◌, Begun.Begun, false, grown_by, length, take, true}
+use Rattle.std.specs.Prelude.{◌++◌, ◌+◌, ◌-◌, ◌≡◌, ◌≤◌}
+use Rattle.script_jobs.specs.{Begun.Begun, false, grown_by, length, take, true}
 use Rattle.script_jobs.proofs.Words.{◌∙◌, ap, arith, subst, sym}
 use Rattle.script_jobs.proofs.Growing.{fits_take, grows_all, same_begun}
 use Rattle.script_jobs.proofs.begun.BegunLine.extend.Goals as goal

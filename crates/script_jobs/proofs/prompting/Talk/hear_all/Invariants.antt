@@ -1,5 +1,6 @@
 -- The lines so far stand.
-use Rattle.script_jobs.specs.{◌≡◌, StandsUnless, false, length}
+use Rattle.std.specs.Prelude.{◌≡◌}
+use Rattle.script_jobs.specs.{StandsUnless, false, length}
 use Rattle.script_jobs.proofs.prompting.Talk.hear_all.Given as goal
 
 abbrev pub decreases-loop-line : goal.decreases-loop-line

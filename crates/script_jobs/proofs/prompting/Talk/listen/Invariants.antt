@@ -1,5 +1,6 @@
 -- The lines so far stand, and no stream has failed.
-use Rattle.script_jobs.specs.{◌-◌, ◌<◌, ◌≡◌, StandsUnless, false, length}
+use Rattle.std.specs.Prelude.{◌-◌, ◌<◌, ◌≡◌}
+use Rattle.script_jobs.specs.{StandsUnless, false, length}
 use Rattle.script_jobs.proofs.prompting.Talk.listen.Given as goal
 
 abbrev pub decreases-reading : goal.decreases-reading

@@ -1,4 +1,4 @@
-use Rattle.script_jobs.specs.{◌++◌}
+use Rattle.std.specs.Prelude.{◌++◌}
 use Rattle.script_jobs.proofs.Words.{◌∙◌, ap, drop, sym, take-append-drop}
 use Rattle.script_jobs.proofs.prompting.Talk.take_back.Goals as goal
 

@@ -1,4 +1,5 @@
-use Rattle.script_jobs.specs.{◌≡◌, false, is_blank, kept, true}
+use Rattle.std.specs.Prelude.{◌≡◌}
+use Rattle.script_jobs.specs.{false, is_blank, kept, true}
 use Rattle.script_jobs.proofs.Words.{◌∙◌, append-nil, rules, sym}
 use Rattle.script_jobs.proofs.Growing.{blank_kept}
 use Rattle.script_jobs.proofs.session.NotedScript.end.Goals as goal

@@ -1,4 +1,5 @@
-use Rattle.script_jobs.specs.{◌++◌, Begun.Begun, Replies, kept, line_note, line_said, noted_of, noting_after, noting_of, plain_of}
+use Rattle.std.specs.Prelude.{◌++◌}
+use Rattle.script_jobs.specs.{Begun.Begun, Replies, kept, line_note, line_said, noted_of, noting_after, noting_of, plain_of}
 use Rattle.script_jobs.proofs.Words.{◌∙◌, all_replied, ap, leaves_rest, none_kept, refl, stops_taking, takes_line, takes_none}
 use Rattle.script_jobs.proofs.{ByBytes.notes_all, ByBytes.notes_leave, ByBytes.notes_line, ByBytes.notes_none, ByBytes.notes_stop, Growing.plain_begun, Growing.plain_said}
 use Rattle.script_jobs.proofs.session.NotedScript.take.Goals as goal

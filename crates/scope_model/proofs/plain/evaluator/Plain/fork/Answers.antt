@@ -1,5 +1,6 @@
 -- An accepted fork has a number for its task.
-use Rattle.scope_model.specs.{◌≡◌, Fork, Ok, check_of}
+use Rattle.std.specs.Prelude.{◌≡◌}
+use Rattle.scope_model.specs.{Fork, Ok, check_of}
 use Rattle.scope_model.proofs.Words.{◌∙◌, arith, fork_number, sym}
 use Rattle.scope_model.proofs.plain.evaluator.Plain.fork.Goals as goal
 

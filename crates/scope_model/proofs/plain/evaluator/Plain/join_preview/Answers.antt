@@ -1,5 +1,6 @@
 -- The log of a scope that may be joined tells what the join would give.
-use Rattle.scope_model.specs.{◌≡◌, Join, Ok, Some, check_of, row_check}
+use Rattle.std.specs.Prelude.{◌≡◌}
+use Rattle.scope_model.specs.{Join, Ok, Some, check_of, row_check}
 use Rattle.scope_model.proofs.Words.{◌∙◌, ap, checks_at, preview_told, refl, sym}
 use Rattle.scope_model.proofs.plain.evaluator.Plain.join_preview.Goals as goal
 

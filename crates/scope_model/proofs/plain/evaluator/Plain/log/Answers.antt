@@ -1,5 +1,6 @@
 -- Logs are short within the limits, and a scope that is there has one.
-use Rattle.scope_model.specs.{ℕ, ◌+◌, ◌<◌, ◌^◌, ◌≡◌, ◌≤◌, Words.History, IsWithin, LOAD_LIMIT, Words.Legal, Limits, entries, length}
+use Rattle.std.specs.Prelude.{◌+◌, ◌<◌, ◌^◌, ◌≡◌, ◌≤◌}
+use Rattle.scope_model.specs.{ℕ, Words.History, IsWithin, LOAD_LIMIT, Words.Legal, Limits, entries, length}
 use Rattle.scope_model.proofs.Words.{◌∙◌, arith, entries_small, entries_there, log_there_where, subst, sym}
 use Rattle.scope_model.proofs.plain.evaluator.Plain.log.Goals as goal
 

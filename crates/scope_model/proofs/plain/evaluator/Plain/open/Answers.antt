@@ -1,5 +1,6 @@
 -- An accepted open has a number for its scope.
-use Rattle.scope_model.specs.{◌≡◌, Ok, Open, check_of}
+use Rattle.std.specs.Prelude.{◌≡◌}
+use Rattle.scope_model.specs.{Ok, Open, check_of}
 use Rattle.scope_model.proofs.Words.{◌∙◌, arith, open_number, sym}
 use Rattle.scope_model.proofs.plain.evaluator.Plain.open.Goals as goal
 

@@ -1,4 +1,5 @@
-use Rattle.scope_model.specs.{◌≡◌, Words.Origin, Realm, base_of, length}
+use Rattle.std.specs.Prelude.{◌≡◌}
+use Rattle.scope_model.specs.{Words.Origin, Realm, base_of, length}
 use Rattle.scope_model.proofs.Words.{◌∙◌, ap, arith, sym}
 use Rattle.scope_model.proofs.KeptEvents.{base_fits, events_start}
 use Rattle.scope_model.proofs.plain.evaluator.Plain.reset.Goals as goal

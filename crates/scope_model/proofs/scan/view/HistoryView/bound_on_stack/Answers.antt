@@ -1,4 +1,5 @@
-use Rattle.scope_model.specs.{◌<◌, length, option_or, stack}
+use Rattle.std.specs.Prelude.{◌<◌}
+use Rattle.scope_model.specs.{length, option_or, stack}
 use Rattle.scope_model.proofs.Words.{◌∙◌, ap, arith, bound_at, bound_to_none, sym}
 use Rattle.scope_model.proofs.scan.view.HistoryView.bound_on_stack.Goals as goal
 

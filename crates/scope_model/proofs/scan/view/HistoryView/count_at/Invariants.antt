@@ -1,5 +1,6 @@
 -- How many of the tasks so far are at the stage.
-use Rattle.scope_model.specs.{◌+◌, ◌≡◌, ◌≤◌, count_by, is_at, range_with_len}
+use Rattle.std.specs.Prelude.{◌+◌, ◌≡◌, ◌≤◌}
+use Rattle.scope_model.specs.{count_by, is_at, range_with_len}
 use Rattle.scope_model.proofs.scan.view.HistoryView.count_at.Given as goal
 
 abbrev pub invariant-loop-before : goal.invariant-loop-before

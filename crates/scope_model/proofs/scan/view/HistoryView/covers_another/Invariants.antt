@@ -1,5 +1,6 @@
 -- Whether one of the scopes so far is another and covered.
-use Rattle.scope_model.specs.{◌+◌, ◌≡◌, covers_other, list_any, range_with_len}
+use Rattle.std.specs.Prelude.{◌+◌, ◌≡◌}
+use Rattle.scope_model.specs.{covers_other, list_any, range_with_len}
 use Rattle.scope_model.proofs.scan.view.HistoryView.covers_another.Given as goal
 
 abbrev pub invariant-loop-before : goal.invariant-loop-before

@@ -1,5 +1,6 @@
 -- No event so far ended the task.
-use Rattle.scope_model.specs.{◌≡◌, None, earliest, ending_at}
+use Rattle.std.specs.Prelude.{◌≡◌}
+use Rattle.scope_model.specs.{None, earliest, ending_at}
 use Rattle.scope_model.proofs.scan.view.HistoryView.ending.Given as goal
 
 abbrev pub invariant-loop-place : goal.invariant-loop-place

@@ -1,5 +1,6 @@
 -- The entries of the places so far.
-use Rattle.scope_model.specs.{◌≡◌, entries_at, flat_map, range_with_len}
+use Rattle.std.specs.Prelude.{◌≡◌}
+use Rattle.scope_model.specs.{entries_at, flat_map, range_with_len}
 use Rattle.scope_model.proofs.scan.view.HistoryView.entries.Given as goal
 
 abbrev pub invariant-loop-place : goal.invariant-loop-place

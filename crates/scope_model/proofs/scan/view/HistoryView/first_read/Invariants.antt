@@ -1,5 +1,6 @@
 -- Nothing was found so far.
-use Rattle.scope_model.specs.{◌≡◌, None, earliest, has_failed, has_succeeded, readable_at}
+use Rattle.std.specs.Prelude.{◌≡◌}
+use Rattle.scope_model.specs.{None, earliest, has_failed, has_succeeded, readable_at}
 use Rattle.scope_model.proofs.Words.{cond}
 use Rattle.scope_model.proofs.scan.view.HistoryView.first_read.Given as goal
 

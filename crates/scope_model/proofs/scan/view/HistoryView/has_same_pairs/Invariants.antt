@@ -1,5 +1,6 @@
 -- Whether one of the pairs so far differs.
-use Rattle.scope_model.specs.{◌≡◌, differ_at, some_below, stack}
+use Rattle.std.specs.Prelude.{◌≡◌}
+use Rattle.scope_model.specs.{differ_at, some_below, stack}
 use Rattle.scope_model.proofs.scan.view.HistoryView.has_same_pairs.Given as goal
 
 abbrev pub invariant-loop-index : goal.invariant-loop-index

@@ -1,5 +1,6 @@
 -- Whether one of the tasks so far was forked in the scope.
-use Rattle.scope_model.specs.{◌+◌, ◌≡◌, is_task_of, list_any, range_with_len}
+use Rattle.std.specs.Prelude.{◌+◌, ◌≡◌}
+use Rattle.scope_model.specs.{is_task_of, list_any, range_with_len}
 use Rattle.scope_model.proofs.scan.view.HistoryView.has_tasks.Given as goal
 
 abbrev pub invariant-loop-before : goal.invariant-loop-before

@@ -1,5 +1,6 @@
 -- Nothing was found so far.
-use Rattle.scope_model.specs.{◌≡◌, None, earliest, joining_at}
+use Rattle.std.specs.Prelude.{◌≡◌}
+use Rattle.scope_model.specs.{None, earliest, joining_at}
 use Rattle.scope_model.proofs.scan.view.HistoryView.joining.Given as goal
 
 abbrev pub invariant-loop-place : goal.invariant-loop-place

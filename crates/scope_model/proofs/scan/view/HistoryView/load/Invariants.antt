@@ -1,5 +1,6 @@
 -- The load of the base and the events so far.
-use Rattle.scope_model.specs.{◌*◌, ◌+◌, ◌≡◌, ◌≤◌, length, sum_by, take, weight}
+use Rattle.std.specs.Prelude.{◌*◌, ◌+◌, ◌≡◌, ◌≤◌}
+use Rattle.scope_model.specs.{length, sum_by, take, weight}
 use Rattle.scope_model.proofs.scan.view.HistoryView.load.Given as goal
 
 abbrev pub invariant-loop-place : goal.invariant-loop-place

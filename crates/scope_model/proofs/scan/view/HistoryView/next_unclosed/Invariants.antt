@@ -1,5 +1,6 @@
 -- Nothing was found so far.
-use Rattle.scope_model.specs.{◌≡◌, None, earliest, unclosed_after}
+use Rattle.std.specs.Prelude.{◌≡◌}
+use Rattle.scope_model.specs.{None, earliest, unclosed_after}
 use Rattle.scope_model.proofs.scan.view.HistoryView.next_unclosed.Given as goal
 
 abbrev pub invariant-loop-count : goal.invariant-loop-count

@@ -1,5 +1,6 @@
 -- The pairs from below so far.
-use Rattle.scope_model.specs.{◌≡◌, stack, take}
+use Rattle.std.specs.Prelude.{◌≡◌}
+use Rattle.scope_model.specs.{stack, take}
 use Rattle.scope_model.proofs.scan.view.HistoryView.stack.Given as goal
 
 abbrev pub invariant-loop-index : goal.invariant-loop-index

@@ -1,5 +1,6 @@
 -- How many own pairs the actor has after the events so far.
-use Rattle.scope_model.specs.{◌+◌, ◌≡◌, ◌≤◌, before, first_stack, length, stack}
+use Rattle.std.specs.Prelude.{◌+◌, ◌≡◌, ◌≤◌}
+use Rattle.scope_model.specs.{before, first_stack, length, stack}
 use Rattle.scope_model.proofs.scan.view.HistoryView.stack_len.Given as goal
 
 abbrev pub invariant-loop-place : goal.invariant-loop-place

@@ -1,5 +1,6 @@
 -- The pair at the place after the events so far.
-use Rattle.scope_model.specs.{◌+◌, ◌≡◌, ◌≤◌, before, first_stack, length, slice_get, stack}
+use Rattle.std.specs.Prelude.{◌+◌, ◌≡◌, ◌≤◌}
+use Rattle.scope_model.specs.{before, first_stack, length, slice_get, stack}
 use Rattle.scope_model.proofs.scan.view.HistoryView.stack_pair.Given as goal
 
 abbrev pub invariant-loop-place : goal.invariant-loop-place

@@ -1,5 +1,6 @@
 -- The tasks of the scope are counted up to the place.
-use Rattle.scope_model.specs.{◌+◌, ◌<◌, ◌≡◌, ◌≤◌, Some, filter, forked_count, is_task_of, length, range_with_len, tasks_of}
+use Rattle.std.specs.Prelude.{◌+◌, ◌<◌, ◌≡◌, ◌≤◌}
+use Rattle.scope_model.specs.{Some, filter, forked_count, is_task_of, length, range_with_len, tasks_of}
 use Rattle.scope_model.proofs.Words.{◌∙◌, ap, arith, subst, sym, true}
 use Rattle.scope_model.proofs.TaskPlaces.{counted_other, counted_passed, none_there, stands_there}
 use Rattle.scope_model.proofs.scan.view.HistoryView.task_at.Goals.{else-is_task_of, then-is_task_of+else-passed-place}

@@ -1,5 +1,6 @@
 -- How many of the tasks so far are the scope's: not more than the place.
-use Rattle.scope_model.specs.{◌+◌, ◌≡◌, ◌≤◌, filter, is_task_of, length, range_with_len}
+use Rattle.std.specs.Prelude.{◌+◌, ◌≡◌, ◌≤◌}
+use Rattle.scope_model.specs.{filter, is_task_of, length, range_with_len}
 use Rattle.scope_model.proofs.scan.view.HistoryView.task_at.Given as goal
 
 abbrev pub invariant-loop-before : goal.invariant-loop-before

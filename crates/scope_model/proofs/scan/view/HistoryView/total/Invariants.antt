@@ -1,5 +1,6 @@
 -- The sum over the events so far, within 2 ^ 63 for each of them.
-use Rattle.scope_model.specs.{◌*◌, ◌^◌, ◌≡◌, ◌≤ℤ◌, completion_of, filter_map, neg_ℤ, pos, take, total_of}
+use Rattle.std.specs.Prelude.{◌*◌, ◌^◌, ◌≡◌, ◌≤ℤ◌}
+use Rattle.scope_model.specs.{completion_of, filter_map, neg_ℤ, pos, take, total_of}
 use Rattle.scope_model.proofs.scan.view.HistoryView.total.Given as goal
 
 abbrev pub invariant-loop-place : goal.invariant-loop-place
