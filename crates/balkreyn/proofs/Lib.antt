@@ -1,4 +1,5 @@
 mod Acted
+mod Collected
 mod Looked
 pub mod Shown
 mod Tried

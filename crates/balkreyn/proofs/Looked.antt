@@ -145,14 +145,14 @@ module _ {X K V E : Type 0} (token : X → OwnerValue) (reads : K → K → ℕ 
   gathered_by forked all same after behind joined mark joins looked (Err refusal) items gave = inr (record { slots = slots; there = there; forked = forked; all = all; answered = Ok joined; after = token after; joins = joins })
 
 -- what may have come of a job that left this
-pub may_come : {V E : Type 0} (may : V → Type 0) (makes : Refusal → E → Type 0) (shown : Option Mark) (answer : Result (Result V E) Refusal) (came : Came V E) → MatchResult answer (λ found. MatchResult found may (λ _. Unit {0})) (λ refusal. refusal ≡ Unavailable) → IsCame makes shown answer came → MayCome may makes shown came
+pub may_come : {V E : Type 0} (may : V → Type 0) (makes : Refusal → E → Type 0) (shown : Option Mark) (answer : Result (Result V E) Refusal) (came : Came V E) → MatchResult answer (λ found. MatchResult found may (λ _. Unit {0})) (λ refusal. refusal ≡ Unavailable) → IsCame makes shown answer came → MayCome may shown came
 may_come may makes shown answer (came.Value value) left is = subst (λ a. MatchResult a (λ found. MatchResult found may (λ _. Unit {0})) (λ refusal. refusal ≡ Unavailable)) is left
 may_come may makes shown answer (came.Failed error) left is = tt
 may_come may makes shown answer (came.Cut mark) left is = is.1
 
 module _ {X K V E : Type 0} (token : X → OwnerValue) (reads : K → K → ℕ → Type 0) (time : X → K) (seat : X → Option Seen) (may : V → Type 0) (makes : Refusal → E → Type 0) (name : Name) (workers jobs s : ℕ) (begun there after behind : X) (joined : Joined) (shown : Option Mark) where
   -- so many workers were joined, and this is what they left
-  pub mapped_by : Forked token s name begun workers there → JoinsFrom reads (time there) (token there) (token after) s (Ok joined) → Looked token seat after behind shown → {C : Type 0} (items : C → List (Came V E)) (result : Result C Refusal) → IfOk result (λ cames. All (MayCome may makes shown) (items cames) × (length (items cames) ≡ jobs)) → Maps token reads time name workers (λ after new cames. GivesEach token seat may makes jobs after new (items cames)) s begun behind result
+  pub mapped_by : Forked token s name begun workers there → JoinsFrom reads (time there) (token there) (token after) s (Ok joined) → Looked token seat after behind shown → {C : Type 0} (items : C → List (Came V E)) (result : Result C Refusal) → IfOk result (λ cames. All (MayCome may shown) (items cames) × (length (items cames) ≡ jobs)) → Maps token reads time name workers (λ after new cames. GivesEach token seat may makes jobs after new (items cames)) s begun behind result
   mapped_by staffed joins looked items (Ok cames) it = (joined, after, record { there = there; staffed = staffed; joins = joins }, record { shown = shown; looked = looked; each = it.0; all = it.1 })
   mapped_by staffed joins looked items (Err refusal) it = inr (record { there = there; staffed = staffed; answered = Ok joined; after = token after; joins = joins })
 

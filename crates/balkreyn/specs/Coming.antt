@@ -1,5 +1,5 @@
 -- What became of what was asked for.
-use Rattle.std.specs.Prelude.{◌≡◌, ◌⊎◌, Option, None, Some, Result, Ok, Err, IsErrAnd}
+use Rattle.std.specs.Prelude.{◌≡◌, ◌⊎◌, ◌++◌, ◌∷◌, All, List, Option, None, Some, Result, Ok, Err, IsErrAnd, map}
 use Rattle.cancel_marks.specs.declared.marks.Mark.{Mark}
 use Rattle.scope_rules.specs.declared.types.refusals.Refusal.{Refusal}
 use Rattle.scope_rules.specs.declared.types.refusals.Refusal.TheVariants.{Unavailable}
@@ -26,7 +26,23 @@ IsCame makes shown answer (came.Failed error) = (answer ≡ Ok (Err error)) ⊎ 
 IsCame makes shown answer (came.Cut mark) = (answer ≡ Err Unavailable) × (shown ≡ Some mark)
 
 -- this may have come of a job, if a look showed this mark: a value that it may answer, any error, or that mark
-abbrev pub MayCome : {V E : Type 0} → (V → Type 0) → (Refusal → E → Type 0) → Option Mark → Came V E → Type 0
-MayCome may makes shown (came.Value value) = may value
-MayCome may makes shown (came.Failed error) = Unit {0}
-MayCome may makes shown (came.Cut mark) = shown ≡ Some mark
+abbrev pub MayCome : {V E : Type 0} → (V → Type 0) → Option Mark → Came V E → Type 0
+MayCome may shown (came.Value value) = may value
+MayCome may shown (came.Failed error) = Unit {0}
+MayCome may shown (came.Cut mark) = shown ≡ Some mark
+
+-- it did not fail
+abbrev pub HasNotFailed : {V E : Type 0} → Came V E → Type 0
+HasNotFailed (came.Value value) = Unit {0}
+HasNotFailed (came.Failed error) = ⊥
+HasNotFailed (came.Cut mark) = Unit {0}
+
+-- it has this mark behind values alone
+abbrev pub IsFirstCut : {V E : Type 0} → List (Came V E) → Mark → Type 0
+IsFirstCut {V} {E} found mark = (values : List V) × (after : List (Came V E)) × (found ≡ map came.Value values ++ came.Cut mark ∷ after)
+
+-- what these come to together: all values in order, if each has one; or else the first error; or else the first mark
+abbrev pub AllCame : {C V E : Type 0} → (C → List V) → List (Came V E) → Came C E → Type 0
+AllCame items found (came.Value values) = found ≡ map came.Value (items values)
+AllCame {V = V} {E = E} items found (came.Failed error) = (before : List (Came V E)) × (after : List (Came V E)) × (found ≡ before ++ came.Failed error ∷ after) × All HasNotFailed before
+AllCame items found (came.Cut mark) = All HasNotFailed found × IsFirstCut found mark

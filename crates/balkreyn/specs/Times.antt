@@ -9,8 +9,7 @@ use Rattle.scope_rules.specs.History.{History}
 use Rattle.scope_rules.specs.Origin.{Origin}
 use Rattle.script_journal.specs.Script.{binds_text, event_line, moment_text, script_text}
 use Rattle.tree_dump.specs.Kept.{known_clock}
-use Rattle.tree_dump.specs.TextTree.{tree_by}
-use Rattle.balkreyn.specs.Looks.{Says}
+use Rattle.balkreyn.specs.Looks.{SaysWaits}
 use Rattle.balkreyn.specs.declared.times.Reached.{Reached}
 use Rattle.balkreyn.specs.declared.times.Times.{Times}
 
@@ -98,7 +97,7 @@ pub record SaysAgesNow {K Z : Type 0} (reads : K → K → ℕ → Type 0) (star
   pub last : K
   pub at : ℕ
   pub read : reads start last at
-  pub says : Says (tree_by (known_clock h times at) h) result
+  pub says : SaysWaits (known_clock h times at) h result
 
 -- and the script with times is of a look at the time that the clock reads then
 pub record SaysWhenNow {K Z : Type 0} (reads : K → K → ℕ → Type 0) (start : K) (times : List ℕ) (result : Result (String Z) Refusal) (h : History) : Type 0 where

@@ -160,7 +160,7 @@ pub record StaffsAndAsks {X K : Type 0} (token : X → OwnerValue) (reads : K �
 pub record GivesEach {X V E : Type 0} (token : X → OwnerValue) (seat : X → Option Seen) (may : V → Type 0) (makes : Refusal → E → Type 0) (jobs : ℕ) (old new : X) (cames : List (Came V E)) : Type 0 where
   pub shown : Option Mark
   pub looked : Looked token seat old new shown
-  pub each : All (MayCome may makes shown) cames
+  pub each : All (MayCome may shown) cames
   pub all : length cames ≡ jobs
 
 -- what is found by so many workers: this, if they were joined; and if nothing is found, the fork of a worker was refused, or

@@ -9,6 +9,7 @@ mod blocks;
 mod came;
 mod channels;
 mod contexts;
+pub(crate) mod current;
 mod frames;
 mod hooks;
 mod intake;

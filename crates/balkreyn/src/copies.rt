@@ -4,11 +4,13 @@ ghost use Rattle.scope_rules.specs.declared.types.refusals.Refusal.TheVariants.{
 ghost use Rattle.scope_rules.specs.History.{History};
 ghost use Rattle.script_journal.specs.Script.{script_text};
 ghost use Rattle.tree_dump.specs.Tree.{dump_text};
+ghost use Rattle.tree_dump.specs.Ages.{no_clock};
 ghost use Rattle.tree_dump.specs.Kept.{known_clock};
 ghost use Rattle.tree_dump.specs.TextTree.{tree_by, tree_text};
-ghost use Rattle.balkreyn.specs.Looks.{IsCopyOf, Says};
+ghost use Rattle.balkreyn.specs.Looks.{IsCopyOf, Says, SaysWaits};
 ghost use Rattle.balkreyn.specs.Times.{SaysWhen};
 
+use crate::act::current::CurrentWaits;
 use crate::times::{Times, timed_script};
 use realm_lock::{Look, RealmState};
 use scope_checks::records;
@@ -16,7 +18,7 @@ use scope_rules::{Base, Event, Limits, Refusal};
 use script_journal::script_of;
 use std::alloc::Global;
 use std::marker::Model;
-use tree_dump::{dump_of, tree_at, tree_of};
+use tree_dump::{Ages, ages_at, dump_of, tree_at, tree_of, tree_with};
 
 /// A history, and the limits of its realm. Its value is the history.
 #[derive(Drop)]
@@ -119,6 +121,53 @@ pub(crate) fn timed_tree_in(
         times.found.as_slice(),
         now,
     ) {
+        Ok(text) => Ok(text),
+        Err(_) => Err(Refusal::Memory),
+    }
+}
+
+/// The tree with the calls in which actors wait.
+pub(crate) fn waiting_tree_in(
+    alloc: Global,
+    copied: Result<Copied, Refusal>,
+    waits: &CurrentWaits,
+) -> Result<String, Refusal>
+    ensures { (h : History) → IsCopyOf h copied → SaysWaits no_clock h result }
+{
+    let realm = copied?.replayed(alloc)?;
+    let found = waits.found(alloc, &realm)?;
+    match tree_with(alloc, &realm, &Ages::none().with(found.lent())) {
+        Ok(text) => Ok(text),
+        Err(_) => Err(Refusal::Memory),
+    }
+}
+
+/// The same with ages, by the times of the events and by that of this look.
+pub(crate) fn waiting_tree_at(
+    alloc: Global,
+    copied: Result<Copied, Refusal>,
+    waits: &CurrentWaits,
+    times: &Times,
+    now: u64,
+) -> Result<String, Refusal>
+    ensures { (h : History) → IsCopyOf h copied → SaysWaits (known_clock h times.now.found.items now) h result }
+{
+    let copied = copied?;
+    let Ok(events) = Vec::from_slice(alloc, copied.events.as_slice()) else {
+        return Err(Refusal::Memory);
+    };
+    let realm = copied.replayed(alloc)?;
+    let found = waits.found(alloc, &realm)?;
+    let Ok(kept) = ages_at(
+        alloc,
+        &realm,
+        events.as_slice(),
+        times.found.as_slice(),
+        now,
+    ) else {
+        return Err(Refusal::Memory);
+    };
+    match tree_with(alloc, &realm, &kept.lent().with(found.lent())) {
         Ok(text) => Ok(text),
         Err(_) => Err(Refusal::Memory),
     }

@@ -4,3 +4,4 @@ pub use crate::by_token::InspectByToken;
 pub use crate::inspect::Inspect;
 pub use crate::times::{Reached, Times};
 pub use scope_log::{LogEntry, ScopeLog};
+pub use tree_dump::WaitCall;

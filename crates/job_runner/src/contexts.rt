@@ -5,7 +5,7 @@ ghost use Rattle.realm_core.specs.Calls.{history_seen};
 use crate::opaque::OpaqueRealm;
 use crate::readers::CellReader;
 use realm_lock::{ActorToken, Realm, RealmName};
-use scope_rules::{Catalog, ScopeId};
+use scope_rules::{Actor, Catalog, ScopeId};
 use share_ledger::OfRealm;
 use std::alloc::Global;
 use thread_pool::{Spawner, Team};
@@ -78,6 +78,13 @@ impl<C: Catalog, S: Spawner<N>, N: RealmName> TaskCtx<C, S, N> {
         ensures { (result.token ≡ token) × (result.opened.items ≡ []) × (result.team.running ≡ []) × (result.around ≡ None) }
     {
         TaskCtx::of_actor(alloc, OpaqueRealm::new(realm), token, spawner, None)
+    }
+
+    /// Who acts by it: the number of the task, or 0 for main (Trio, `current_task`).
+    pub fn actor(&self) -> Actor
+        ensures { result ≡ self.now.token.actor }
+    {
+        self.token.held.actor()
     }
 
     /// The context of an actor that has no scope, with the mark of the scope around it.

@@ -390,16 +390,17 @@ fn failed<X: Acts<Shop>>(cx: &mut X) -> Result<bool, Refusal> {
 /// Whether a deadline ends the wait for the one permit, which is held; whether a body that failed gave it back; and what
 /// the next body answers.
 fn limits<X: Acts<Shop>>(cx: &mut X) -> Result<(Option<bool>, bool, Option<u32>), Refusal> {
-    let limiter = Limiter::new(cx.alloc(), 1)?;
-    let held = limited(cx, &limiter, |cx| waited_for(cx, &limiter))?;
-    let failed = limited(cx, &limiter, |_cx| Err::<u32, NoStock>(NoStock::Empty))?;
-    let next = limited(cx, &limiter, |_cx| Ok::<u32, Refusal>(7))?;
+    let mut limiter = Limiter::new(cx.alloc(), 1)?;
+    let mut another = limiter.share()?;
+    let held = limited(cx, &mut limiter, |cx| waited_for(cx, &mut another))?;
+    let failed = limited(cx, &mut limiter, |_cx| Err::<u32, NoStock>(NoStock::Empty))?;
+    let next = limited(cx, &mut limiter, |_cx| Ok::<u32, Refusal>(7))?;
     let is_failed = matches!(failed, Came::Failed(NoStock::Empty));
     Ok((held.value(), is_failed, next.value()))
 }
 
 /// Whether no permit comes within 50 milliseconds.
-fn waited_for<X: Acts<Shop>>(cx: &mut X, limiter: &Limiter) -> Result<bool, Refusal> {
+fn waited_for<X: Acts<Shop>>(cx: &mut X, limiter: &mut Limiter) -> Result<bool, Refusal> {
     let options = cx.move_on_after(50);
     scope(cx, Joiner::AwaitAll, options, |cx, _scope| {
         let second = limited(cx, limiter, |_cx| Ok::<u32, Refusal>(1))?;

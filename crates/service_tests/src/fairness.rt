@@ -1,7 +1,7 @@
 //! Who waits for a permit gets it in the order of asking, beside one who asks again and again.
 
 use balkreyn::act::{Acts, Came, Hooks, Limiter, Serves, Task, limited, scope, serve};
-use balkreyn::{End, Joiner, Options, Refusal, ServiceAnswer, ServiceError, Value, named};
+use balkreyn::{End, Fault, Joiner, Options, Refusal, ServiceAnswer, ServiceError, Value, named};
 use std::alloc::Global;
 use std::process::Abort;
 use std::sync::Arc;
@@ -24,11 +24,14 @@ struct Greedy {
 
 impl Task for Greedy {
     fn run<X: Acts<Greedy>>(self, cx: &mut X) -> End {
+        let Ok(mut limiter) = self.shared.limiter.share() else {
+            return Err(Fault(named(b"refused")));
+        };
         for _ in 0..u32::MAX {
             if self.shared.is_over.load(Ordering::SeqCst) {
                 break;
             }
-            let held = limited(cx, &self.shared.limiter, |cx| cx.sleep(1));
+            let held = limited(cx, &mut limiter, |cx| cx.sleep(1));
             self.shared.taken.fetch_add(1, Ordering::SeqCst);
             if !matches!(held, Ok(Came::Value(None))) {
                 break;
@@ -63,6 +66,7 @@ impl Serves<Greedy> for Asks {
 
 /// The same, of these.
 fn beside<X: Acts<Greedy>>(cx: &mut X, shared: &Shared, greedy: Greedy) -> Result<bool, Refusal> {
+    let mut limiter = shared.limiter.share()?;
     let options = cx.move_on_after(8_000);
     scope(cx, Joiner::AwaitAll, options, |cx, scope| {
         cx.fork(scope, named(b"greedy"), greedy)?;
@@ -70,7 +74,7 @@ fn beside<X: Acts<Greedy>>(cx: &mut X, shared: &Shared, greedy: Greedy) -> Resul
         let before = shared.taken.load(Ordering::SeqCst);
         let count = limited(
             cx,
-            &shared.limiter,
+            &mut limiter,
             |_cx| Ok::<u64, Refusal>(shared.taken.load(Ordering::SeqCst)),
         )?
         .value();

@@ -69,11 +69,12 @@ fn in_order<X: Acts<Waiter>>(cx: &mut X) -> Result<u32, Refusal> {
 /// What two who wait come to, summed up, if the first is cancelled just before there is something for one.
 fn passed_on<X: Acts<Waiter>>(cx: &mut X, want: Want) -> Result<u64, Refusal> {
     let (desk, halves) = desk_of(cx)?;
+    let mut limiter = desk.limiter.share()?;
     let options = cx.move_on_after(5_000);
     scope(cx, Joiner::AwaitAll, options, |cx, scope| {
         limited(
             cx,
-            &desk.limiter,
+            &mut limiter,
             |cx| cancels_first(cx, scope, &desk, &halves, want),
         )?
         .into_result()?;

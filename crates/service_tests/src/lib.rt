@@ -49,6 +49,8 @@ mod stopping;
 #[cfg(test)]
 mod storm;
 #[cfg(test)]
+mod trees;
+#[cfg(test)]
 mod waiters;
 #[cfg(test)]
 mod watches;

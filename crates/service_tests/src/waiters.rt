@@ -126,11 +126,14 @@ impl Waiter {
                 Sent::Closed(_six) => Ok(CLOSED),
                 Sent::Cancelled(_six) => Ok(CANCELLED),
             },
-            Want::Permit => match limited(cx, &self.desk.limiter, |_cx| Ok::<u32, Refusal>(2))? {
-                Came::Value(two) => Ok(two),
-                Came::Failed(refusal) => Err(refusal),
-                Came::Cut(_) => Ok(CANCELLED),
-            },
+            Want::Permit => {
+                let mut limiter = self.desk.limiter.share()?;
+                match limited(cx, &mut limiter, |_cx| Ok::<u32, Refusal>(2))? {
+                    Came::Value(two) => Ok(two),
+                    Came::Failed(refusal) => Err(refusal),
+                    Came::Cut(_) => Ok(CANCELLED),
+                }
+            }
         }
     }
 }

@@ -98,6 +98,10 @@ fn a_watch_shows_what_hangs_and_since_when(rt: HostRuntime) -> Result<(), Fail> 
         "the tree shows what hangs"
     );
     assert!(rt;
+        tree.contains(", main waits in join for ") && tree.contains(" ms, waits in sleep for "),
+        "and in which calls"
+    );
+    assert!(rt;
         journal.contains("\nstart 2\n# at ") || journal.contains("\nstart 2\nstart 1\n# at "),
         "and the journal, until when"
     );

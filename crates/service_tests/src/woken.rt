@@ -37,13 +37,14 @@ impl Serves<Waiter> for Plays {
     fn serve<X: Acts<Waiter>>(self, cx: &mut X) -> Result<(u64, u64), ServiceError> {
         let (desk, halves) = desk_of(cx)?;
         let mut halves = Some(halves);
+        let mut limiter = desk.limiter.share()?;
         let options = match self.ends {
             Ends::ByDeadline => cx.move_on_after(400),
             Ends::ByCancel => cx.move_on_after(600_000), // nothing but the cancel wakes them
             _ => cx.move_on_after(5_000),
         };
         let read = scope(cx, Joiner::AwaitAll, options, |cx, scope| {
-            let read = limited(cx, &desk.limiter, |cx| self.holds(cx, scope, &desk))?.value();
+            let read = limited(cx, &mut limiter, |cx| self.holds(cx, scope, &desk))?.value();
             self.ends(cx, &mut halves)?;
             cx.join(scope)?;
             Ok::<Option<u64>, Refusal>(read)

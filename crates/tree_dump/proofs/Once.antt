@@ -395,8 +395,8 @@ unfolding tree_by
 tree_is L c h legal =
     let it = root_lines c h (outermost h 0) in
     record {
-      first = moment_line (moment h) c.now ++ it.0;
-      text = ap (λ l. moment_line (moment h) c.now ++ l) it.1 ∙ sym (append_assoc (moment_line (moment h) c.now) it.0 (flat_map (line_text c h) (tree_lines h)));
+      first = moment_line (moment h) c.now c.main ++ it.0;
+      text = ap (λ l. moment_line (moment h) c.now c.main ++ l) it.1 ∙ sym (append_assoc (moment_line (moment h) c.now c.main) it.0 (flat_map (line_text c h) (tree_lines h)));
       scopes = λ s o is. scopes_once L c h legal s o is;
       tasks = λ k f is. as_its_scope h k f is 16 0 (outermost h 0) ∙ scope_of_task k f is;
     }

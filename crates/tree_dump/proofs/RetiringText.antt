@@ -23,7 +23,8 @@ use Rattle.scope_rules.specs.declared.types.answers.Stage.TheVariants.{Never, Wa
 use Rattle.scope_rules.specs.declared.types.values.Label.{Label}
 use Rattle.scope_rules.specs.Tasks.{counts, stage, state}
 use Rattle.tree_dump.specs.TextLines.{moment_line, scope_text, task_text}
-use Rattle.tree_dump.specs.TextTree.{line, task_line, task_lines, tasks_lines, scope_lines, nested, aged_scope, open_text, scope_line, tree_by, tree_text}
+use Rattle.tree_dump.specs.TextTree.{line, task_line, task_lines, tasks_lines, scope_lines, nested, aged_scope, open_text, scope_line, task_ages, tree_by, tree_text}
+use Rattle.tree_dump.specs.Waits.{found_wait, task_wait, task_waits}
 use Rattle.tree_dump.specs.RetiringText.{TreeStays}
 use Rattle.tree_dump.proofs.Walked.{info_scope}
 
@@ -36,13 +37,13 @@ flat_same f g (k ∷ ks) e =
 
 -- ---- without a clock no age is shown
 
-abbrev picked : Bool → ℕ → Option ℕ
+abbrev picked : {A : Type 0} → Bool → ℕ → Option A
 picked b i = cond b (slice_get [] i) None
 
-no_reading : (before n : ℕ) → reading_in [] before n ≡ None
-no_reading before n = by (nat_lt before n)
+no_reading : {A : Type 0} (before n : ℕ) → reading_in {A} [] before n ≡ None
+no_reading {A} before n = by (nat_lt before n)
   where
-    by : (b : Bool) → picked b (n - before - 1) ≡ None
+    by : (b : Bool) → picked {A} b (n - before - 1) ≡ None
     by true = refl
     by false = refl
 
@@ -52,12 +53,21 @@ no_age h k Running = ap (λ o. for_text (option_and_then (since no_clock) o)) (n
 no_age h k Never = refl
 no_age h k Finished = refl
 
+no_wait : (h : History) (k : ℕ) (st : Stage) → task_waits None (task_wait no_clock h k st) ≡ []
+no_wait h k Running = ap (λ o. task_waits None (found_wait o)) (no_reading h.base.tasks k)
+no_wait h k Waiting = refl
+no_wait h k Never = refl
+no_wait h k Finished = refl
+
+no_ages : (h : History) (k : ℕ) → task_ages no_clock h k ≡ []
+no_ages h k = ap₂ (λ xs ys. xs ++ ys) (no_age h k (stage h k)) (no_wait h k (stage h k))
+
 abbrev untimed_line : History → ℕ → ℕ → List ℕ
 untimed_line h depth k = option_map_or (λ (l : Label). line depth (task_text k l.name (stage h k) (state h k) ++ [])) (label h k) []
 
 untimed : (h : History) (depth k : ℕ) → task_line no_clock h depth k ≡ untimed_line h depth k
 unfolding task_line
-untimed h depth k = ap (λ t. option_map_or (λ (l : Label). line depth (task_text k l.name (stage h k) (state h k) ++ t)) (label h k) []) (no_age h k (stage h k))
+untimed h depth k = ap (λ t. option_map_or (λ (l : Label). line depth (task_text k l.name (stage h k) (state h k) ++ t)) (label h k) []) (no_ages h k)
 
 no_scope_age : (h : History) (s : ℕ) → scope_age no_clock h s ≡ None
 no_scope_age h s = ap (option_and_then (since no_clock)) (no_reading h.base.scopes s)
@@ -120,7 +130,7 @@ module _ (r : Retirable) (es : List Event) (none : NamesNone r es) where
 
   pub text_alike : tree_text (unretired r es) ≡ tree_text (retired r es)
   unfolding tree_by
-  text_alike = ap₂ (λ m xs. moment_line m None ++ xs) (same_moment r es) open_alike
+  text_alike = ap₂ (λ m xs. moment_line m None None ++ xs) (same_moment r es) open_alike
 
 pub tree_stays : TreeStays
 tree_stays L commands free =

@@ -168,7 +168,7 @@ module _ (L : Limits) (c : Clock) (h : History) (legal : Legal L h) where
   root_in : (s : ℕ) → outermost h 0 ≡ Some s → InText 15 0 s
   unfolding tree_by
   root_in s at =
-      (moment_line (moment h) c.now, [], ap (λ o. moment_line (moment h) c.now ++ open_text c h o) at ∙ ap (λ x. moment_line (moment h) c.now ++ x) (sym (append-nil (nested c h 16 0 (Some s)))))
+      (moment_line (moment h) c.now c.main, [], ap (λ o. moment_line (moment h) c.now c.main ++ open_text c h o) at ∙ ap (λ x. moment_line (moment h) c.now c.main ++ x) (sym (append-nil (nested c h 16 0 (Some s)))))
       -- ---- the walk comes to each, whatever is said of it that goes on inwards from main's outermost scope
 
   module _ (IsIn : ℕ → ℕ → ℕ → Type 0)

@@ -9,25 +9,28 @@ use Rattle.scope_rules.specs.History.{History}
 use Rattle.scope_rules.specs.Tasks.{is_finished}
 use Rattle.tree_dump.specs.declared.ages.Ages.{Ages}
 use Rattle.tree_dump.specs.declared.ages.TaskTimes.{TaskTimes}
+use Rattle.tree_dump.specs.declared.waits.CurrentWait.{CurrentWait}
 
 -- the last reading of a clock, if it was read, and the readings as tasks were forked, started and ended and as scopes were opened,
--- by number since the base
+-- by number since the base; and in which calls main and these tasks wait, if they do
 pub record Clock : Type 0 where
   pub now : Option ℕ
   pub forked : List ℕ
   pub started : List ℕ
   pub ended : List ℕ
   pub opened : List ℕ
+  pub main : Option CurrentWait
+  pub waits : List (Option CurrentWait)
 
 abbrev pub clock_of : Ages → Clock
-clock_of a = record { now = a.last; forked = a.forked.now; started = a.started.now; ended = a.ended.now; opened = a.opened.now }
+clock_of a = record { now = a.last; forked = a.forked.now; started = a.started.now; ended = a.ended.now; opened = a.opened.now; main = a.waits.main; waits = a.waits.tasks.now }
 
 -- without readings
 abbrev pub no_clock : Clock
-no_clock = record { now = None; forked = []; started = []; ended = []; opened = [] }
+no_clock = record { now = None; forked = []; started = []; ended = []; opened = []; main = None; waits = [] }
 
--- the reading for the number, of those behind `before`
-abbrev pub reading_in : List ℕ → ℕ → ℕ → Option ℕ
+-- what there is for the number, of those behind `before`
+abbrev pub reading_in : {A : Type 0} → List A → ℕ → ℕ → Option A
 reading_in readings before number = if nat_lt before number then slice_get readings (number - before - 1) else None
 
 -- how long it is since a reading, if the clock was read: it is never negative

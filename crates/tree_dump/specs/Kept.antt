@@ -1,5 +1,5 @@
 -- The clock of a tree, by the readings of its events.
-use Rattle.std.specs.Prelude.{ℕ, ◌+◌, min, Some, List, [], ◌∷◌, map, length, get_or}
+use Rattle.std.specs.Prelude.{ℕ, ◌+◌, min, None, Some, List, [], ◌∷◌, map, length, get_or}
 use Rattle.std.specs.List.{range_with_len}
 use Rattle.run_times.specs.Stamps.{end_times, fork_times, open_times, start_times}
 use Rattle.scope_rules.specs.History.{History}
@@ -7,12 +7,12 @@ use Rattle.tree_dump.specs.declared.kept.KeptAges.{KeptAges}
 use Rattle.tree_dump.specs.Ages.{Clock, no_clock}
 
 abbrev pub clock_kept : KeptAges → Clock
-clock_kept k = record { now = k.last; forked = k.forked.items; started = k.started.items; ended = k.ended.items; opened = k.opened.items }
+clock_kept k = record { now = k.last; forked = k.forked.items; started = k.started.items; ended = k.ended.items; opened = k.opened.items; main = None; waits = [] }
 
 -- by the readings of the events, and the last of all: without readings there is none
 abbrev pub clock_by : History → List ℕ → ℕ → Clock
 clock_by h [] last = no_clock
-clock_by h (t ∷ times) last = record { now = Some last; forked = fork_times h (t ∷ times); started = start_times h (t ∷ times); ended = end_times h (t ∷ times); opened = open_times h (t ∷ times) }
+clock_by h (t ∷ times) last = record { now = Some last; forked = fork_times h (t ∷ times); started = start_times h (t ∷ times); ended = end_times h (t ∷ times); opened = open_times h (t ∷ times); main = None; waits = [] }
 
 -- a time in 32 bits: no later than can be told
 abbrev pub small : ℕ → ℕ

@@ -1,5 +1,6 @@
 pub mod Ages
 pub mod Kept
+pub mod Waits
 pub mod Objects
 pub mod Tree
 pub mod TreeParts

@@ -16,6 +16,8 @@ use Rattle.scope_rules.specs.declared.types.events.Expiry.TheVariants.{Fail, Mov
 use Rattle.scope_rules.specs.declared.types.infos.ScopeInfo.{ScopeInfo}
 use Rattle.scope_rules.specs.declared.types.names.Name.{Name}
 use Rattle.tree_dump.specs.Ages.{duration_text}
+use Rattle.tree_dump.specs.declared.waits.CurrentWait.{CurrentWait}
+use Rattle.tree_dump.specs.Waits.{main_waits}
 use Rattle.tree_dump.specs.Words.{scope_stage_word}
 
 -- the last reading of the clock, if it was read
@@ -23,9 +25,9 @@ abbrev pub now_text : Option ℕ → List ℕ
 now_text None = []
 now_text (Some now) = codes ", now " ++ decimal now
 
--- the first line: the moment, and that reading
-unfoldable pub moment_line : ℕ → Option ℕ → List ℕ
-moment_line moment now = codes "moment " ++ decimal moment ++ now_text now ++ codes "\n"
+-- the first line: the moment, that reading, and in which call main waits, if it does
+unfoldable pub moment_line : ℕ → Option ℕ → Option CurrentWait → List ℕ
+moment_line moment now main = codes "moment " ++ decimal moment ++ now_text now ++ main_waits now main ++ codes "\n"
 
 -- two spaces for each level
 abbrev pub indent : ℕ → List ℕ

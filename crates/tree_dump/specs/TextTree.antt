@@ -10,6 +10,7 @@ use Rattle.scope_rules.specs.Nests.{outermost, inner, tasks_of, label, info}
 use Rattle.scope_rules.specs.Tasks.{counts, stage, state}
 use Rattle.tree_dump.specs.Ages.{Clock, aged_text, due_in, for_text, no_clock, scope_age, scope_late, task_age}
 use Rattle.tree_dump.specs.TextLines.{indent, moment_line, scope_text, task_text}
+use Rattle.tree_dump.specs.Waits.{task_wait, task_waits}
 
 -- a line at this depth
 abbrev pub line : ℕ → List ℕ → List ℕ
@@ -23,9 +24,13 @@ aged_scope i c due age late = scope_text i c due ++ aged_text age late
 abbrev pub scope_line : Clock → History → ℕ → ScopeInfo → List ℕ
 scope_line c h depth i = line depth (aged_scope i (counts h i.scope) (due_in c i.joined i.deadline) (scope_age c h i.scope) (scope_late c h i))
 
+-- how long task k waits or runs, and in which call it waits
+abbrev pub task_ages : Clock → History → ℕ → List ℕ
+task_ages c h k = for_text (task_age c h k (stage h k)) ++ task_waits c.now (task_wait c h k (stage h k))
+
 -- the line of task k, if it was forked since the base
 unfoldable pub task_line : Clock → History → ℕ → ℕ → List ℕ
-task_line c h depth k = option_map_or (λ l. line depth (task_text k l.name (stage h k) (state h k) ++ for_text (task_age c h k (stage h k)))) (label h k) []
+task_line c h depth k = option_map_or (λ l. line depth (task_text k l.name (stage h k) (state h k) ++ task_ages c h k)) (label h k) []
 
 -- task k at this depth, with what `inside` tells of the scope inside it
 abbrev pub task_lines : Clock → History → (ℕ → Option ℕ → List ℕ) → ℕ → ℕ → List ℕ
@@ -51,7 +56,7 @@ open_text c h (Some s) = nested c h LEVEL_LIMIT 0 (Some s)
 
 -- the text of the history's tree, with ages by a clock
 unfoldable pub tree_by : Clock → History → List ℕ
-tree_by c h = moment_line (moment h) c.now ++ open_text c h (outermost h 0)
+tree_by c h = moment_line (moment h) c.now c.main ++ open_text c h (outermost h 0)
 
 -- without them
 abbrev pub tree_text : History → List ℕ

@@ -93,7 +93,7 @@ levels_from c h depth (Some s) = if stands h s then nested c h (min depth LEVEL_
 
 -- the moment, a part, and the sums
 abbrev pub with_sums : Clock → History → List ℕ → List ℕ
-with_sums c h text = moment_line (moment h) c.now ++ (text ++ sums_text (sums h))
+with_sums c h text = moment_line (moment h) c.now c.main ++ (text ++ sums_text (sums h))
 
 abbrev pub part_text : Clock → History → TreePart → List ℕ
 part_text c h part.Whole = tree_by c h

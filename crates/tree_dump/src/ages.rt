@@ -1,8 +1,10 @@
 //! How long tasks run and scopes are open, by a clock.
 ghost use Rattle.std.specs.Prelude.{◌≡◌, Some, option_map};
 ghost use Rattle.std.specs.Option.{option_and_then};
+ghost use Rattle.tree_dump.specs.Waits.{with_waits};
 ghost use Rattle.tree_dump.specs.Ages.{aged_text, clock_of, due_in, duration_text, for_text, late_by, late_text, no_clock, open_text, reading_in, runs_or_ran, scope_age, scope_late, scope_since, since, task_age, task_reading, task_times};
 
+use crate::waits::Waits;
 use scope_checks::Readings;
 use scope_rules::types::infos::ScopeInfo;
 use scope_rules::{ScopeId, Stage, TaskId};
@@ -21,6 +23,8 @@ pub struct Ages<'a> {
     pub ended: &'a [u32],
     /// By scope since the last retirement, the reading as it was opened.
     pub opened: &'a [u32],
+    /// In which calls actors wait.
+    pub waits: Waits<'a>,
 }
 
 impl<'a> Ages<'a> {
@@ -34,12 +38,20 @@ impl<'a> Ages<'a> {
             started: &[],
             ended: &[],
             opened: &[],
+            waits: Waits::none(),
         }
+    }
+
+    /// The same readings, and these waits.
+    pub fn with(self, waits: Waits<'a>) -> Ages<'a>
+        ensures { clock_of result ≡ with_waits (clock_of self) waits }
+    {
+        Ages { waits, ..self }
     }
 }
 
-/// The reading for the number, of those behind `before`.
-fn reading_in(readings: &[u32], before: u32, number: u32) -> Option<u32>
+/// What there is for the number, of those behind `before`.
+pub(crate) fn reading_in<T: Copy>(readings: &[T], before: u32, number: u32) -> Option<T>
     ensures { result ≡ reading_in readings.now before number }
 {
     if before < number {

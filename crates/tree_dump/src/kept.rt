@@ -6,6 +6,7 @@ ghost use Rattle.tree_dump.specs.TextTree.{tree_by};
 
 use crate::ages::Ages;
 use crate::text_walk::tree_with;
+use crate::waits::Waits;
 use run_times::{end_times, fork_times, open_times, start_times};
 use scope_checks::Readings;
 use scope_rules::Event;
@@ -64,6 +65,7 @@ impl KeptAges {
             started: &self.started,
             ended: &self.ended,
             opened: &self.opened,
+            waits: Waits::none(),
         }
     }
 }
@@ -102,8 +104,26 @@ fn stamps_of(alloc: Global, times: &[u64], now: u64, count: usize) -> Result<Vec
     Ok(found)
 }
 
-/// The tree of what was read, as text for a terminal, with ages: by the times of its events in milliseconds, as far as they
-/// are known, and by that of now. The others happened by now. A time past 4294967295 counts as that.
+/// Readings by the times of the events in milliseconds, as far as they are known, and by that of now. The others happened by
+/// now. A time past 4294967295 counts as that.
+///
+/// # Errors
+/// It is refused for memory alone.
+pub fn ages_at<R: Readings>(
+    alloc: Global,
+    readings: &R,
+    events: &[Event],
+    times: &[u64],
+    now: u64,
+) -> Result<KeptAges, AllocError>
+    requires { events.now ≡ (R.history readings.now).events }
+    ensures { IfOk result (λ kept. clock_kept kept ≡ known_clock (R.history readings.now) times.now now) }
+{
+    let stamps = stamps_of(alloc, times, now, events.len() + 1)?;
+    KeptAges::new(alloc, readings, events, &stamps, small(now))
+}
+
+/// The tree of what was read, as text for a terminal, with ages by `ages_at`.
 ///
 /// # Errors
 /// It is refused for memory alone.
@@ -117,7 +137,6 @@ pub fn tree_at<R: Readings>(
     requires { events.now ≡ (R.history readings.now).events }
     ensures { IfOk result (λ text. string_bytes text ≡ tree_by (known_clock (R.history readings.now) times.now now) (R.history readings.now)) }
 {
-    let stamps = stamps_of(alloc, times, now, events.len() + 1)?;
-    let kept = KeptAges::new(alloc, readings, events, &stamps, small(now))?;
+    let kept = ages_at(alloc, readings, events, times, now)?;
     tree_with(alloc, readings, &kept.lent())
 }

@@ -35,10 +35,10 @@
 //! of its tasks, indented by two spaces a level:
 //!
 //! ```text
-//! moment N[, now T]
+//! moment N[, now T][, main waits in CALL[ for AGE]]
 //! scope S STAGE, of OWNER, joins JOINER[, joined][, deadline N[ to move on][, in AGE]][, shielded]
 //!     [, cancelled by CAUSE scope P], awaits N of M[, open for AGE][, late by AGE]
-//!   task K NAME: PROGRESS[ for AGE]
+//!   task K NAME: PROGRESS[ for AGE][, waits in CALL[ for AGE]]
 //! ```
 //!
 //! Each is one line. STAGE is `open` or `closing`, OWNER `main` or `task K`, JOINER a joiner as a script has it.
@@ -50,7 +50,9 @@
 //! AGE is in milliseconds, as `9 ms`, or from a second on in seconds with tenths, as `3.2 s`. T is the last reading of a
 //! clock, in milliseconds. An age is T less the reading as the scope was opened, or as the task started, if it runs, or was
 //! forked, if it waits. A deadline of a scope that is not joined comes in as long as it is later than T, or else the scope is
-//! late by as long as it is past. Only `tree_with` and `tree_at` show ages, by such readings.
+//! late by as long as it is past. Only `tree_with` and `tree_at` show ages, by such readings, and in which calls actors wait,
+//! as their caller knows it: `join`, `close`, `sleep`, `receive`, `send`, `permit`, `next_done`, `stop` or
+//! `wait_rung`.
 //!
 //! The first scope is main's outermost one. Under a scope stand its tasks, in fork order; under a task its own
 //! outermost scope; and behind a scope's tasks, as deep as they, the next scope that its owner opened and has not
@@ -75,13 +77,15 @@ mod text_lines;
 mod text_walk;
 mod timed;
 pub mod told;
+mod waits;
 pub mod walk;
 mod words;
 
 pub use ages::Ages;
 pub use book::dump;
-pub use kept::{KeptAges, tree_at};
+pub use kept::{KeptAges, ages_at, tree_at};
 pub use parts::{Sums, TreePart, tree_part};
 pub use text_walk::{tree_of, tree_with};
 pub use timed::timed_dump;
+pub use waits::{CurrentWait, WaitCall, Waits};
 pub use walk::dump_of;

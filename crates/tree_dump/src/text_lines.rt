@@ -4,6 +4,7 @@ ghost use Rattle.tree_dump.specs.TextTree.{aged_scope};
 ghost use Rattle.tree_dump.specs.TextLines.{awaits_text, cause_text, deadline_text, due_text, expiry_text, head_text, indent, joined_text, kind_text, moment_line, now_text, owner_text, progress_text, scope_text, shield_text, task_text};
 
 use crate::ages::{ShownAged, ShownDuration};
+use crate::waits::{CurrentWait, ShownMainWait};
 use crate::words::scope_stage_word;
 use scope_log::ShownJoiner;
 use scope_rules::types::infos::ScopeInfo;
@@ -55,20 +56,25 @@ impl fmt::Display for ShownNow {
     }
 }
 
-/// The first line: the moment, and the last reading of the clock, if it was read.
+/// The first line: the moment, the last reading of the clock, if it was read, and in which call main waits, if it does.
 #[derive(Clone, Copy)]
 pub(crate) struct ShownMoment {
     pub(crate) moment: u64,
     pub(crate) now: Option<u32>,
+    pub(crate) main: Option<CurrentWait>,
 }
 
 impl fmt::Display for ShownMoment {
-    ghost output = { λ m. Some (moment_line m.moment m.now) };
+    ghost output = { λ m. Some (moment_line m.moment m.now m.main) };
 
     #[tactic(auto, unfolding(crate::specs::TextLines::moment_line))]
     fn fmt<W: fmt::Write>(&self, f: &mut fmt::Formatter<W>) -> fmt::Result {
         let now = ShownNow(self.now);
-        write!(f, "moment {}{now}\n", self.moment)
+        let main = ShownMainWait {
+            now: self.now,
+            wait: self.main,
+        };
+        write!(f, "moment {}{now}{main}\n", self.moment)
     }
 }
 

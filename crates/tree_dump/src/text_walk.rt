@@ -10,6 +10,7 @@ ghost use Rattle.tree_dump.specs.TextTree.{nested, scope_line, task_line, tree_b
 use crate::ages::{Ages, ShownFor, due_in, scope_age, scope_late, task_age};
 use crate::text_lines::{AgedScope, Indent, ShownMoment, ShownTask};
 use crate::told::info_at;
+use crate::waits::{ShownTaskWait, task_wait};
 use scope_checks::Readings;
 use scope_rules::types::capacity::LEVEL_LIMIT;
 use scope_rules::types::infos::ScopeInfo;
@@ -61,7 +62,11 @@ pub(crate) fn append_task_line<R: Readings>(
         state: readings.state(task),
     };
     let running = ShownFor(task_age(readings, ages, task, stage));
-    write!(text, "{}{shown}{running}\n", Indent(depth))
+    let waits = ShownTaskWait {
+        now: ages.last,
+        wait: task_wait(readings, ages, task, stage),
+    };
+    write!(text, "{}{shown}{running}{waits}\n", Indent(depth))
 }
 
 /// Appends the lines of what stands where the scope may lie, at this depth: the scope with its tasks and what
@@ -109,17 +114,19 @@ pub(crate) fn append_scope<R: Readings>(
     )
 }
 
-/// The line with the moment, and with the last reading of the clock, if it was read. It is refused for memory alone.
+/// The line with the moment, with the last reading of the clock, if it was read, and with the call in which main waits, if it
+/// does. It is refused for memory alone.
 pub(crate) fn begun<R: Readings>(
     alloc: Global,
     readings: &R,
     ages: &Ages<'_>,
 ) -> Result<String, AllocError>
-    ensures { IfOk result (λ text. string_bytes text ≡ moment_line (moment (R.history readings.now)) (clock_of ages.now).now) }
+    ensures { IfOk result (λ text. string_bytes text ≡ moment_line (moment (R.history readings.now)) (clock_of ages.now).now (clock_of ages.now).main) }
 {
     let line = ShownMoment {
         moment: readings.moment(),
         now: ages.last,
+        main: ages.waits.main,
     };
     format!(in alloc; "{line}")
 }
@@ -132,7 +139,7 @@ pub fn tree_of<R: Readings>(alloc: Global, readings: &R) -> Result<String, Alloc
 }
 
 /// The tree of what was read, as text, with ages: how long each task waits or runs, how long each scope is open, and in how
-/// long its deadline comes, or how late it is by that. An age is the last reading less the reading of that task's fork or
+/// long its deadline comes, or how late it is by that; and in which call each actor waits. An age is the last reading less the reading of that task's fork or
 /// start, or of that scope's opening. It is refused for memory alone.
 #[tactic(auto, unfolding(crate::specs::TextTree::tree_by))]
 pub fn tree_with<R: Readings>(

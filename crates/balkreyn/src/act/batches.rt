@@ -177,7 +177,7 @@ fn left_by<J: Yields, W, X: Acts<W>>(
 ) -> Result<Vec<Came<J::Value, J::Error>>, Refusal>
 where
     J::Error: From<Refusal>,
-    ensures { IfOk result (λ cames. All (MayCome (J.may_yield name) ⟦<J::Error as From<Refusal>>⟧.from_gives shown.old) cames.items × (length cames.items ≡ length batch.now.places.items)) }
+    ensures { IfOk result (λ cames. All (MayCome (J.may_yield name) shown.old) cames.items × (length cames.items ≡ length batch.now.places.items)) }
 {
     let mut cames = Vec::new(cx.alloc());
     for place in batch.places.iter() {

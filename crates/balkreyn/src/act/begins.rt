@@ -15,6 +15,7 @@ use job_runner::{ForkRefusal, NamedJob};
 use realm_lock::RealmName;
 use scope_rules::{AnyEnd, ForkReply, Label, Name, Refusal, ScopeId};
 use thread_pool::Spawner;
+use tree_dump::WaitCall;
 
 /// The context of an owner, whose jobs are requests. These calls are of no trait, as `Acts` is: the check of a call that is
 /// generic in such a trait meets its step limit.
@@ -99,10 +100,15 @@ impl<K: Handle, O: Observes, S: Spawner<N>, N: RealmName> Cx<'_, K, O, S, N> {
     {
         let mut clock = self.clock;
         let rt = clock.runtime();
-        if self.ctx.join_by(&rt, scope, &mut clock).is_err() {
-            self.ctx.join_bare(&rt, scope)?;
-        }
-        Ok(())
+        self.waits_in(WaitCall::Join);
+        let joined = self.ctx.join_by(&rt, scope, &mut clock).is_ok();
+        let found = if joined {
+            Ok(())
+        } else {
+            self.ctx.join_bare(&rt, scope).map(|_joined| ())
+        };
+        self.goes_on();
+        found
     }
 
     /// Tells the observer, and by it the source, of a request that wasn't answered.

@@ -1,6 +1,7 @@
 //! What became of what was asked for.
-ghost use Rattle.std.specs.Prelude.{◌≡◌};
-ghost use Rattle.balkreyn.specs.Coming.{IsCame, IsResultOf, came_value};
+ghost use Rattle.std.specs.Prelude.{◌≡◌, MatchResult};
+ghost use Rattle.scope_rules.specs.declared.types.refusals.Refusal.TheVariants.{Memory};
+ghost use Rattle.balkreyn.specs.Coming.{AllCame, IsCame, IsResultOf, came_value};
 
 use realm_lock::Mark;
 use scope_rules::Refusal;
@@ -80,7 +81,9 @@ pub(crate) fn came_of<V: Drop, E: From<Refusal> + Drop>(
 pub fn all_values<V: Drop, E: Drop>(
     alloc: Global,
     found: Vec<Came<V, E>>,
-) -> Result<Came<Vec<V>, E>, Refusal> {
+) -> Result<Came<Vec<V>, E>, Refusal>
+    ensures { MatchResult result (λ one. AllCame (λ values. values.items) found.items one) (λ refusal. refusal ≡ Memory) }
+{
     let mut values = Vec::new(alloc);
     let mut cut = None;
     for came in found {
@@ -88,9 +91,10 @@ pub fn all_values<V: Drop, E: Drop>(
             Came::Value(value) => values.push(value)?,
             Came::Failed(error) => return Ok(Came::Failed(error)),
             Came::Cut(mark) => {
-                if cut.is_none() {
-                    cut = Some(mark);
-                }
+                cut = match cut {
+                    Some(first) => Some(first),
+                    None => Some(mark),
+                };
             }
         }
     }

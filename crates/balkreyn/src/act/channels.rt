@@ -15,6 +15,7 @@ use std::alloc::{AllocError, AllocFailed, Global};
 use std::collections::VecDeque;
 use std::sync::atomic::{AtomicU64, Ordering};
 use std::sync::{Arc, Wait};
+use tree_dump::WaitCall;
 
 /// The half of a channel into which values are sent. Each job that sends has a share of it; once the last is dropped, the
 /// channel is closed: what is in it can still be received.
@@ -293,6 +294,10 @@ impl<T> Receiver<T> {
 
 /// What is awaited of a channel is a value; there is none if it is closed and empty.
 impl<T> Looks<Option<T>> for Receiver<T> {
+    fn call(&self) -> WaitCall {
+        WaitCall::Receive
+    }
+
     fn ask<R: Wait>(&self, rt: &R, bell: Option<Bell>) -> Turn {
         let turn = self.shared.lock(rt).receivers.ask(bell);
         self.shared.behind(None);
@@ -384,7 +389,7 @@ fn offer<T, W, X: Acts<W>>(
             Put::Closed(back) => return Ok(Sent::Closed(back)),
             Put::Full(back) => back,
         };
-        match paused(cx, 1, turn.bell(), heard) {
+        match paused(cx, WaitCall::Send, 1, turn.bell(), heard) {
             Ok(None) => {}
             Ok(Some(_mark)) => return Ok(Sent::Cancelled(value)),
             Err(refusal) => return Err((refusal, value)),

@@ -11,6 +11,7 @@ use crate::act::tasks::{Part, Task, Timed};
 use crate::act::told::Told;
 use crate::aliases::{CanFork, Handle};
 use crate::by_token::InspectByToken;
+use crate::copies::{CopyOut, waiting_tree_at, waiting_tree_in};
 use crate::forks::fork;
 use crate::scoped::Scopes;
 use crate::times::Times;
@@ -19,13 +20,14 @@ use job_runner::{Clock, SystemClock, TaskCtx};
 use join_rules::Joiner;
 use realm_lock::{BellWait, Joined, Mark, RealmName};
 use scope_rules::{
-    AnyEnd, Base, Cancelling, CauseKind, Effective, ForkReply, Name, Options, Refusal, ScopeId,
+    Actor, AnyEnd, Base, Cancelling, CauseKind, Effective, ForkReply, Name, Options, Refusal, ScopeId,
     State, TaskId, Value, Verdict,
 };
 use std::alloc::Global;
 use std::rt::Clock as SystemTime;
 use std::sync::Wait;
 use thread_pool::Spawner;
+use tree_dump::WaitCall;
 
 /// What a service and its jobs act by: the context of a task, which knows the realm's time. A helper has one bound,
 /// `X: Acts<W>`, where `W` is the type of its jobs. Each wait is by the realm's clock, so it ends at a deadline.
@@ -64,9 +66,9 @@ pub trait Acts<W>: Scopes + Wait {
     ghost use Rattle.balkreyn.specs.Acting.{ClosesNow, IsNow, IsSoAfter, JoinsFrom, RemainsNow, SleepsFor, WaitsRung};
     ghost use Rattle.balkreyn.specs.Bodies.{Opens};
     ghost use Rattle.balkreyn.specs.Slots.{ForksUnder};
-    ghost use Rattle.balkreyn.specs.Looks.{Says};
+    ghost use Rattle.balkreyn.specs.Looks.{SaysWaits};
     ghost use Rattle.balkreyn.specs.Times.{NotesNow, SaysAgesNow, SaysWhenNow};
-    ghost use Rattle.tree_dump.specs.TextTree.{tree_text};
+    ghost use Rattle.tree_dump.specs.Ages.{no_clock};
 
     /// The clock of the realm's time, as the prover sees it.
     ghost Time: { Type 0 };
@@ -85,6 +87,10 @@ pub trait Acts<W>: Scopes + Wait {
 
     /// Where its memory comes from.
     fn alloc(&self) -> Global;
+
+    /// The number of its task, or 0 for main (Trio, `current_task`).
+    fn actor(&self) -> Actor
+        ensures { result ≡ (Self.token self.now).actor };
 
     /// The realm's time, in milliseconds since the realm began (Trio, `current_time`).
     fn now(&self) -> u64
@@ -135,7 +141,13 @@ pub trait Acts<W>: Scopes + Wait {
 
     /// Waits until the bell has rung more often than that, or until a checkpoint would show a mark, which it then returns
     /// (Trio, `ParkingLot.park`). Who reads how often it has rung, and then looks for what it waits for, misses no ring.
-    fn wait_rung(&mut self, bell: &Bell, heard: u64) -> Result<Option<Mark>, Refusal>
+    /// A tree says that it waits in this call.
+    fn wait_rung(
+        &mut self,
+        call: WaitCall,
+        bell: &Bell,
+        heard: u64,
+    ) -> Result<Option<Mark>, Refusal>
         ensures sees { SeesMore (Self.token self.old) (Self.token self.new) }
         ensures answer { WaitsRung Self.reads Self.reading (Self.time self.old) (Self.token self.old) (Self.token self.new) (Self.seat self.old) (Self.seat self.new) result };
 
@@ -183,15 +195,17 @@ pub trait Acts<W>: Scopes + Wait {
     fn retire(&mut self) -> Result<Base, Refusal>
         ensures { DoesOrMemory (Self.token self.old) (Self.token self.new) Retirement base_of result };
 
-    /// The tree of the realm's open scopes, as text for a terminal; `Memory` if there is none for it.
+    /// The tree of the realm's open scopes, as text for a terminal, with the calls in which its actors wait; `Memory` if there
+    /// is none for it.
     fn tree(&mut self) -> Result<String, Refusal>
-        ensures { Reads (Self.token self.old) (Self.token self.new) (λ h. Says (tree_text h) result) };
+        ensures { Reads (Self.token self.old) (Self.token self.new) (λ h. SaysWaits no_clock h result) };
 
     /// Notes how far the realm's history has come by now; `Memory` if there is none for that.
     fn note(&mut self, times: &mut Times) -> Result<(), Refusal>
         ensures { Reads (Self.token self.old) (Self.token self.new) (NotesNow Self.reads (Self.time self.old) times.old times.new result) };
 
-    /// The tree with ages by these times, as `InspectByToken::timed_tree`; `Memory` if there is none for it.
+    /// The tree with ages by these times, as `InspectByToken::timed_tree`, and with the calls in which its actors wait;
+    /// `Memory` if there is none for it.
     fn timed_tree(&mut self, times: &Times) -> Result<String, Refusal>
         ensures { Reads (Self.token self.old) (Self.token self.new) (SaysAgesNow Self.reads (Self.time self.old) times.now.found.items result) };
 
@@ -252,6 +266,18 @@ impl<K: Handle, O: Observes, S: Spawner<N>, N: RealmName> Cx<'_, K, O, S, N> {
     pub(crate) fn report(&self, what: Happening) {
         let mut clock = self.clock;
         self.hooks.saw(&clock.runtime(), clock.now(), what);
+    }
+
+    /// Notes for trees that it waits in this call from now on.
+    pub(crate) fn waits_in(&self, call: WaitCall) {
+        let mut clock = self.clock;
+        let since = clock.now();
+        self.hooks.waits.begin(self.ctx.actor(), call, since);
+    }
+
+    /// Notes that it waits no more.
+    pub(crate) fn goes_on(&self) {
+        self.hooks.waits.end(self.ctx.actor());
     }
 
     /// The same, if there are any news.
@@ -367,6 +393,10 @@ impl<K: Handle, O: Observes, N: RealmName, W: Task, S: CanFork<AnyEnd, N, Timed<
         self.alloc
     }
 
+    fn actor(&self) -> Actor {
+        self.ctx.actor()
+    }
+
     fn now(&self) -> u64 {
         let mut clock = self.clock;
         clock.now()
@@ -391,7 +421,9 @@ impl<K: Handle, O: Observes, N: RealmName, W: Task, S: CanFork<AnyEnd, N, Timed<
 
     fn close(&mut self, scope: ScopeId) -> Result<Verdict, Refusal> {
         let mut clock = self.clock;
+        self.waits_in(WaitCall::Close);
         let found = self.close_opened_by(&clock.runtime(), scope, &mut clock);
+        self.goes_on();
         self.told.closed(scope, &found);
         self.frames.closed(scope, &found);
         found
@@ -414,7 +446,9 @@ impl<K: Handle, O: Observes, N: RealmName, W: Task, S: CanFork<AnyEnd, N, Timed<
 
     fn join(&mut self, scope: ScopeId) -> Result<Joined, Refusal> {
         let mut clock = self.clock;
+        self.waits_in(WaitCall::Join);
         let found = self.ctx.join_by(&clock.runtime(), scope, &mut clock);
+        self.goes_on();
         self.frames.joined(scope, &found);
         let news = self.told.by_join(&found);
         self.report_news(news);
@@ -432,16 +466,25 @@ impl<K: Handle, O: Observes, N: RealmName, W: Task, S: CanFork<AnyEnd, N, Timed<
     fn sleep(&mut self, millis: u64) -> Result<Option<Mark>, Refusal> {
         let mut clock = self.clock;
         let until = clock.now().saturating_add(millis);
+        self.waits_in(WaitCall::Sleep);
         let found = self.ctx.sleep_by(&clock.runtime(), &mut clock, until);
+        self.goes_on();
         let news = self.told.by_sleep(&found);
         self.report_news(news);
         found
     }
 
-    fn wait_rung(&mut self, bell: &Bell, heard: u64) -> Result<Option<Mark>, Refusal> {
+    fn wait_rung(
+        &mut self,
+        call: WaitCall,
+        bell: &Bell,
+        heard: u64,
+    ) -> Result<Option<Mark>, Refusal> {
         let mut clock = self.clock;
         let bell = BellWait { bell, heard };
+        self.waits_in(call);
         let found = self.ctx.wait_rung_by(&clock.runtime(), &mut clock, bell);
+        self.goes_on();
         let news = self.told.by_sleep(&found);
         self.report_news(news);
         found
@@ -501,7 +544,9 @@ impl<K: Handle, O: Observes, N: RealmName, W: Task, S: CanFork<AnyEnd, N, Timed<
     }
 
     fn tree(&mut self) -> Result<String, Refusal> {
-        self.ctx.tree(&self.clock.runtime(), self.alloc)
+        let alloc = self.alloc;
+        let copied = self.ctx.look(&self.clock.runtime(), CopyOut { alloc });
+        waiting_tree_in(alloc, copied, &self.hooks.waits)
     }
 
     fn note(&mut self, times: &mut Times) -> Result<(), Refusal> {
@@ -512,9 +557,9 @@ impl<K: Handle, O: Observes, N: RealmName, W: Task, S: CanFork<AnyEnd, N, Timed<
 
     fn timed_tree(&mut self, times: &Times) -> Result<String, Refusal> {
         let mut clock = self.clock;
-        let now = clock.now();
-        let rt = clock.runtime();
-        self.ctx.timed_tree(&rt, self.alloc, times, now)
+        let (now, alloc) = (clock.now(), self.alloc);
+        let copied = self.ctx.look(&clock.runtime(), CopyOut { alloc });
+        waiting_tree_at(alloc, copied, &self.hooks.waits, times, now)
     }
 
     fn timed_journal(&mut self, times: &Times) -> Result<String, Refusal> {

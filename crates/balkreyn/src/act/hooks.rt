@@ -4,10 +4,11 @@ ghost use Rattle.std.specs.Arc.{arc_value};
 ghost use Rattle.std.specs.Prelude.{◌≡◌, ◌<◌, IfOk, IfSome, IsSomeAnd, MatchResult, option_map};
 ghost use Rattle.scope_rules.specs.declared.types.refusals.Refusal.TheVariants.{Memory};
 
+use crate::act::current::CurrentWaits;
 use crate::act::requests::Lost;
 use crate::act::stops::Stop;
 use crate::act::watches::Watch;
-use scope_rules::{CauseKind, Fault, Name, Refusal, ScopeId};
+use scope_rules::{CauseKind, Fault, Limits, Name, Refusal, ScopeId};
 use std::alloc::{AllocError, Global};
 use std::sync::atomic::{AtomicU64, Ordering};
 use std::sync::{Arc, Wait};
@@ -258,9 +259,29 @@ impl Hooks<()> {
 pub(crate) struct Shares<O> {
     pub(crate) load: Option<Arc<Load, Global>>,
     pub(crate) observer: Option<Arc<O, Global>>,
+    /// In which calls the actors of its realm wait.
+    pub(crate) waits: Arc<CurrentWaits, Global>,
 }
 
 impl<O: Drop> Shares<O> {
+    /// The shares of these, in a realm with such limits, in which nobody waits.
+    pub(crate) fn new(
+        alloc: Global,
+        limits: Limits,
+        load: Option<Arc<Load, Global>>,
+        observer: Option<Arc<O, Global>>,
+    ) -> Result<Shares<O>, AllocError> {
+        let waits = match Arc::new(alloc, CurrentWaits::new(alloc, limits)?) {
+            Ok(waits) => waits,
+            Err(_) => return Err(AllocError),
+        };
+        Ok(Shares {
+            load,
+            observer,
+            waits,
+        })
+    }
+
     /// The same for one more.
     pub(crate) fn share(&self) -> Result<Shares<O>, AllocError>
         ensures { IfOk result (λ other. (option_map arc_value other.load ≡ option_map arc_value self.now.load) × (option_map arc_value other.observer ≡ option_map arc_value self.now.observer)) }
@@ -268,6 +289,7 @@ impl<O: Drop> Shares<O> {
         Ok(Shares {
             load: share_of(&self.load)?,
             observer: share_of(&self.observer)?,
+            waits: Arc::try_clone(&self.waits)?,
         })
     }
 

@@ -14,14 +14,16 @@ use scope_rules::Refusal;
 use std::alloc::{AllocError, Global};
 use std::sync::atomic::{AtomicU64, Ordering};
 use std::sync::{Arc, Wait};
+use tree_dump::WaitCall;
 
 /// So many permits, each held by one at a time, and given in the order of asking (Trio, `CapacityLimiter`). Each job that
-/// asks has a share of it.
+/// asks has a share of it, which `limited` borrows while its body runs. So no body asks again by the share for what it holds:
+/// that doesn't compile.
 ///
 /// A wait for a permit, which a deadline ends:
 ///
 /// ```rust
-/// fn waited_for<X: Acts<Shop>>(cx: &mut X, limiter: &Limiter) -> Result<bool, Refusal> {
+/// fn waited_for<X: Acts<Shop>>(cx: &mut X, limiter: &mut Limiter) -> Result<bool, Refusal> {
 ///     let options = cx.move_on_after(50);
 ///     scope(cx, Joiner::AwaitAll, options, |cx, _scope| {
 ///         let second = limited(cx, limiter, |_cx| Ok::<u32, Refusal>(1))?;
@@ -161,6 +163,10 @@ impl Hears<AtomicU64> for Line {
 
 /// What is awaited of a limiter is a permit.
 impl Looks<Taken> for Limiter {
+    fn call(&self) -> WaitCall {
+        WaitCall::Permit
+    }
+
     fn ask<R: Wait>(&self, rt: &R, bell: Option<Bell>) -> Turn {
         let turn = self.shared.lock(rt).waiting.ask(bell);
         self.shared.behind(None);
@@ -186,13 +192,13 @@ impl Looks<Taken> for Limiter {
 /// The refusal of the wait.
 pub fn limited<W, X: Acts<W>, T: Drop, E: Drop, F: FnOnce(&mut X) -> Result<T, E>>(
     cx: &mut X,
-    limiter: &Limiter,
+    limiter: &mut Limiter,
     body: F,
 ) -> Result<Came<T, E>, Refusal>
     requires { F.IsAlwaysCallable body }
     ensures { RunsLimited X.token (λ old new slept. Pauses X.reads X.reading X.time X.token X.seat 1 old new slept) F.FnOnce body cx.old cx.new result }
 {
-    let waited: Result<Result<Taken, Mark>, Refusal> = awaited(cx, 1, limiter);
+    let waited: Result<Result<Taken, Mark>, Refusal> = awaited(cx, 1, &*limiter);
     let permit = match waited? {
         Ok(permit) => permit,
         Err(mark) => return Ok(Came::Cut(mark)),

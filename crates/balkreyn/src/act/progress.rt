@@ -13,6 +13,7 @@ use crate::slots::Slot;
 use cancel_marks::Bell;
 use realm_lock::Mark;
 use scope_rules::{Refusal, State, TaskId};
+use tree_dump::WaitCall;
 
 /// Waits until one more of the tasks of these slots has ended, takes its slot out, and gives its number and what its job
 /// came to. For a task that is taken so no join is owed. None once there is no slot left; if a cancel or a deadline comes
@@ -64,7 +65,8 @@ where
         if let Some((index, done)) = first_done(cx, slots)? {
             return Ok(Ok((index, done)));
         }
-        if let Some(mark) = paused(cx, 1, bell_for(&bell, slots), heard)? {
+        let bell = bell_for(&bell, slots);
+        if let Some(mark) = paused(cx, WaitCall::NextDone, 1, bell, heard)? {
             return Ok(Err(mark));
         }
     }

@@ -10,6 +10,7 @@ use cancel_marks::Bell;
 use scope_rules::{End, Fault, Refusal, ScopeId, Value};
 use std::alloc::Global;
 use std::sync::{Arc, Mutex, Wait};
+use tree_dump::WaitCall;
 
 /// A stop of a service. Who may ask for it and the service's `Hooks` share it in an `Arc`.
 ///
@@ -129,6 +130,10 @@ const SECOND: u64 = 1;
 
 /// A watch waits at a bell if no file can ask, and no two others wait for the same stop.
 impl Looks<()> for Stop {
+    fn call(&self) -> WaitCall {
+        WaitCall::Stop
+    }
+
     fn ask<R: Wait>(&self, rt: &R, bell: Option<Bell>) -> Turn {
         match &self.file {
             Some(_) => Turn::at(None, &None),

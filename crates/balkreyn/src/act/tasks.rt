@@ -17,7 +17,7 @@ use crate::services::{Service, ServiceAnswer, realm_clock, serve_on_pool};
 use job_runner::{Answers, Clock, Job, JobWork, SystemClock, TaskCtx};
 use join_rules::Joiner;
 use realm_lock::{RealmName, Seed};
-use scope_rules::{AnyEnd, End, ForkReply, Name, Options, Refusal, ScopeId};
+use scope_rules::{AnyEnd, End, ForkReply, Limits, Name, Options, Refusal, ScopeId};
 use std::alloc::Global;
 use std::marker::{Brand, PhantomData};
 use std::rt::Clock as SystemTime;
@@ -186,7 +186,10 @@ where
             load,
             observer,
         } = hooks;
-        let (clock, shares) = (realm_clock(rt)?, Shares { load, observer });
+        let clock = realm_clock(rt)?;
+        let Ok(shares) = Shares::new(alloc, Limits::GREATEST, load, observer) else {
+            return Err(Refusal::Memory.into());
+        };
         match watch {
             None => {
                 serve_stoppable::<K, N, W, O, V, S>(alloc, clock, ctx, stop, &shares, service)

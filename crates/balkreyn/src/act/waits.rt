@@ -9,9 +9,13 @@ use cancel_marks::Bell;
 use realm_lock::Mark;
 use scope_rules::Refusal;
 use std::sync::Wait;
+use tree_dump::WaitCall;
 
 /// What is had in the order of asking, if it is there.
 pub(crate) trait Looks<T> {
+    /// The call in which one waits for it.
+    fn call(&self) -> WaitCall;
+
     /// A place behind those who wait, at this bell.
     fn ask<R: Wait>(&self, rt: &R, bell: Option<Bell>) -> Turn;
 
@@ -58,7 +62,7 @@ fn in_line<T, A: Looks<T>, W, X: Acts<W>>(
         if let Some(found) = it.look(cx, Some(turn)) {
             return Ok(Ok(found));
         }
-        if let Some(mark) = paused(cx, millis, turn.bell(), heard)? {
+        if let Some(mark) = paused(cx, it.call(), millis, turn.bell(), heard)? {
             return Ok(Err(mark));
         }
     }
@@ -74,9 +78,10 @@ pub(crate) fn rings_of(bell: Option<&Bell>) -> u64 {
     }
 }
 
-/// Sleeps until the bell has rung more often than that, or, if there is none, for so many milliseconds.
+/// Sleeps until the bell has rung more often than that, or, if there is none, for so many milliseconds. It waits in this call.
 pub(crate) fn paused<W, X: Acts<W>>(
     cx: &mut X,
+    call: WaitCall,
     millis: u64,
     bell: Option<&Bell>,
     heard: u64,
@@ -85,7 +90,7 @@ pub(crate) fn paused<W, X: Acts<W>>(
     ensures answer { Pauses X.reads X.reading X.time X.token X.seat millis cx.old cx.new result }
 {
     match bell {
-        Some(bell) => cx.wait_rung(bell, heard),
+        Some(bell) => cx.wait_rung(call, bell, heard),
         None => cx.sleep(millis),
     }
 }

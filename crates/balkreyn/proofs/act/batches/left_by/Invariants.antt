@@ -4,4 +4,4 @@ use Rattle.balkreyn.specs.Coming.{MayCome}
 use Rattle.balkreyn.proofs.act.batches.left_by.Given as goal
 
 abbrev pub invariant-loop-place : goal.invariant-loop-place
-invariant-loop-place g l = All (MayCome (g.J.Yields.may_yield l.name) g.J.Error.From.from_gives l.initial.shown) l.cames.items × (length l.cames.items ≡ l.place-index) × (l.shown ≡ l.initial.shown)
+invariant-loop-place g l = All (MayCome (g.J.Yields.may_yield l.name) l.initial.shown) l.cames.items × (length l.cames.items ≡ l.place-index) × (l.shown ≡ l.initial.shown)

@@ -1,0 +1,76 @@
+-- What was collected of all that came, as far as one has looked.
+use Rattle.std.proofs.Common.{◌≡◌, ◌++◌, ◌∷◌, ◌∙◌, List, [], Option, None, Some, All, map, refl, ap, subst, sym}
+use Rattle.std.proofs.lemmas.List.{append_assoc, append-nil, map-append}
+use Rattle.std.proofs.lemmas.List.Elements.{All-append, All-cons, All-nil}
+use Rattle.cancel_marks.specs.declared.marks.Mark.{Mark}
+use Rattle.balkreyn.specs.declared.act.came.Came.{Came}
+use Rattle.balkreyn.specs.declared.act.came.Came.TheVariants as came
+use Rattle.balkreyn.specs.Coming.{HasNotFailed, IsFirstCut}
+
+-- the first mark among them, or none: then all have values
+abbrev pub IsSoFar : {V E : Type 0} → List (Came V E) → List V → Option Mark → Type 0
+IsSoFar seen values None = seen ≡ map came.Value values
+IsSoFar seen values (Some mark) = IsFirstCut seen mark
+
+-- what is left follows what was seen, of which none failed
+pub record Collected {V E : Type 0} (found left : List (Came V E)) (values : List V) (cut : Option Mark) : Type 0 where
+  pub seen : List (Came V E)
+  pub all : found ≡ seen ++ left
+  pub none : All HasNotFailed seen
+  pub so : IsSoFar seen values cut
+
+pub nothing_yet : {V E : Type 0} (found : List (Came V E)) → Collected found found [] None
+nothing_yet found = record { seen = []; all = refl; none = All-nil HasNotFailed; so = refl }
+
+one_on : {V E : Type 0} (seen left : List (Came V E)) (one : Came V E) → seen ++ one ∷ left ≡ (seen ++ one ∷ []) ++ left
+one_on seen left one = sym (append_assoc seen (one ∷ []) left)
+
+more_behind : {V E : Type 0} (seen : List (Came V E)) (one : Came V E) (mark : Mark) → IsFirstCut seen mark → IsFirstCut (seen ++ one ∷ []) mark
+more_behind seen one mark it = (it.0, it.1 ++ one ∷ [], ap (λ s. s ++ one ∷ []) it.2 ∙ append_assoc (map came.Value it.0) (came.Cut mark ∷ it.1) (one ∷ []))
+
+-- a value more
+pub one_value : {V E : Type 0} (found left next : List (Came V E)) (values more : List V) (cut : Option Mark) (value : V) → left ≡ came.Value value ∷ next → more ≡ values ++ value ∷ [] → Collected found left values cut → Collected found next more cut
+one_value found left next values more cut value at pushed it = record {
+  seen = it.seen ++ came.Value value ∷ [];
+  all = it.all ∙ ap (λ l. it.seen ++ l) at ∙ one_on it.seen next (came.Value value);
+  none = All-append HasNotFailed it.seen (came.Value value ∷ []) it.none (All-cons HasNotFailed (came.Value value) [] tt (All-nil HasNotFailed));
+  so = by cut it.so;
+}
+  where
+    by : (cut : Option Mark) → IsSoFar it.seen values cut → IsSoFar (it.seen ++ came.Value value ∷ []) more cut
+    by None so = ap (λ s. s ++ came.Value value ∷ []) so ∙ (sym (map-append came.Value values (value ∷ [])) ∙ ap (map came.Value) (sym pushed))
+    by (Some mark) so = more_behind it.seen (came.Value value) mark so
+
+-- a mark more: the first
+pub first_cut : {V E : Type 0} (found left next : List (Came V E)) (values : List V) (mark : Mark) → left ≡ came.Cut mark ∷ next → Collected found left values None → Collected found next values (Some mark)
+first_cut found left next values mark at it = record {
+  seen = it.seen ++ came.Cut mark ∷ [];
+  all = it.all ∙ ap (λ l. it.seen ++ l) at ∙ one_on it.seen next (came.Cut mark);
+  none = All-append HasNotFailed it.seen (came.Cut mark ∷ []) it.none (All-cons HasNotFailed (came.Cut mark) [] tt (All-nil HasNotFailed));
+  so = (values, [], ap (λ s. s ++ came.Cut mark ∷ []) it.so);
+}
+
+-- or a later one
+pub next_cut : {V E : Type 0} (found left next : List (Came V E)) (values : List V) (first mark : Mark) → left ≡ came.Cut mark ∷ next → Collected found left values (Some first) → Collected found next values (Some first)
+next_cut found left next values first mark at it = record {
+  seen = it.seen ++ came.Cut mark ∷ [];
+  all = it.all ∙ ap (λ l. it.seen ++ l) at ∙ one_on it.seen next (came.Cut mark);
+  none = All-append HasNotFailed it.seen (came.Cut mark ∷ []) it.none (All-cons HasNotFailed (came.Cut mark) [] tt (All-nil HasNotFailed));
+  so = more_behind it.seen (came.Cut mark) first it.so;
+}
+
+-- one that failed, the first
+pub one_failed : {V E : Type 0} (found left next : List (Came V E)) (values : List V) (cut : Option Mark) (error : E) → left ≡ came.Failed error ∷ next → Collected found left values cut → (before : List (Came V E)) × (after : List (Came V E)) × (found ≡ before ++ came.Failed error ∷ after) × All HasNotFailed before
+one_failed found left next values cut error at it = (it.seen, next, it.all ∙ ap (λ l. it.seen ++ l) at, it.none)
+
+-- all were seen
+pub all_seen : {V E : Type 0} (found left : List (Came V E)) (values : List V) (cut : Option Mark) → left ≡ [] → (it : Collected found left values cut) → found ≡ it.seen
+all_seen found left values cut end it = it.all ∙ ap (λ l. it.seen ++ l) end ∙ append-nil it.seen
+
+pub all_have_values : {V E : Type 0} (found left : List (Came V E)) (values : List V) → left ≡ [] → Collected found left values None → found ≡ map came.Value values
+all_have_values found left values end it = all_seen found left values None end it ∙ it.so
+
+pub one_was_cut : {V E : Type 0} (found left : List (Came V E)) (values : List V) (mark : Mark) → left ≡ [] → Collected found left values (Some mark) → All HasNotFailed found × IsFirstCut found mark
+one_was_cut found left values mark end it =
+    let same = all_seen found left values (Some mark) end it in
+    (subst (All HasNotFailed) (sym same) it.none, subst (λ l. IsFirstCut l mark) (sym same) it.so)

@@ -1,0 +1,54 @@
+-- In which calls actors wait, and how long.
+use Rattle.std.specs.Prelude.{ℕ, ◌-◌, List, [], ◌++◌, Option, None, Some, option_map, codes}
+use Rattle.std.specs.Option.{option_and_then}
+use Rattle.scope_rules.specs.declared.types.answers.Stage.{Stage}
+use Rattle.scope_rules.specs.declared.types.answers.Stage.TheVariants.{Running}
+use Rattle.scope_rules.specs.History.{History}
+use Rattle.tree_dump.specs.declared.waits.CurrentWait.{CurrentWait}
+use Rattle.tree_dump.specs.declared.waits.WaitCall.{WaitCall}
+use Rattle.tree_dump.specs.declared.waits.WaitCall.TheVariants.{Join, Close, Sleep, Receive, Send, Permit, NextDone, Stop, Ring}
+use Rattle.tree_dump.specs.declared.waits.Waits.{Waits}
+use Rattle.tree_dump.specs.Ages.{Clock, for_text, reading_in}
+
+-- the same readings, and these waits
+abbrev pub with_waits : Clock → Waits → Clock
+with_waits c w = record c { main = w.main; waits = w.tasks.now }
+
+abbrev pub found_wait : Option (Option CurrentWait) → Option CurrentWait
+found_wait None = None
+found_wait (Some wait) = wait
+
+-- in which call task k waits, if it runs, and that is known
+abbrev pub task_wait : Clock → History → ℕ → Stage → Option CurrentWait
+task_wait c h k Running = found_wait (reading_in c.waits h.base.tasks k)
+task_wait c h k _ = None
+
+-- the call, as who makes it writes it
+abbrev pub call_word : WaitCall → List ℕ
+call_word Join = codes "join"
+call_word Close = codes "close"
+call_word Sleep = codes "sleep"
+call_word Receive = codes "receive"
+call_word Send = codes "send"
+call_word Permit = codes "permit"
+call_word NextDone = codes "next_done"
+call_word Stop = codes "stop"
+call_word Ring = codes "wait_rung"
+
+-- how long it lasts by the last reading of a clock: it is never negative
+abbrev pub waited : Option ℕ → CurrentWait → Option ℕ
+waited now wait = option_map (λ n. n - wait.since) now
+
+-- in which call, and how long
+unfoldable pub wait_text : Option ℕ → CurrentWait → List ℕ
+wait_text now wait = codes "waits in " ++ call_word wait.call ++ for_text (waited now wait)
+
+-- behind the line of a task
+abbrev pub task_waits : Option ℕ → Option CurrentWait → List ℕ
+task_waits now None = []
+task_waits now (Some wait) = codes ", " ++ wait_text now wait
+
+-- behind the moment
+abbrev pub main_waits : Option ℕ → Option CurrentWait → List ℕ
+main_waits now None = []
+main_waits now (Some wait) = codes ", main " ++ wait_text now wait
