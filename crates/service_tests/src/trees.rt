@@ -140,11 +140,7 @@ impl Serves<Typed<Looks>> for Waits {
 }
 
 /// Forks the job, and waits for it in the call; for a close only until it has begun.
-fn waits_in<X: Acts<Typed<Looks>>>(
-    cx: &mut X,
-    own: ScopeId,
-    waits: Waits,
-) -> Result<(), Refusal> {
+fn waits_in<X: Acts<Typed<Looks>>>(cx: &mut X, own: ScopeId, waits: Waits) -> Result<(), Refusal> {
     let mut slots = Vec::new(cx.alloc());
     slots.push(fork_value(cx, own, named(b"looks"), waits.looks)?)?;
     match waits.call {

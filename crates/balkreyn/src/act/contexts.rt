@@ -20,8 +20,8 @@ use job_runner::{Clock, SystemClock, TaskCtx};
 use join_rules::Joiner;
 use realm_lock::{BellWait, Joined, Mark, RealmName};
 use scope_rules::{
-    Actor, AnyEnd, Base, Cancelling, CauseKind, Effective, ForkReply, Name, Options, Refusal, ScopeId,
-    State, TaskId, Value, Verdict,
+    Actor, AnyEnd, Base, Cancelling, CauseKind, Effective, ForkReply, Name, Options, Refusal,
+    ScopeId, State, TaskId, Value, Verdict,
 };
 use std::alloc::Global;
 use std::rt::Clock as SystemTime;

@@ -77,10 +77,7 @@ impl<
 > Service<S, N, K> for Owner<'_, W, O, Q> {
     fn serve(self, rt: &K, ctx: &mut TaskCtx<AnyEnd, S, N>) -> Result<(), ServiceError> {
         let clock = realm_clock(rt)?;
-        let (load, observer) = (
-            share_of(&self.hooks.load)?,
-            share_of(&self.hooks.observer)?,
-        );
+        let (load, observer) = (share_of(&self.hooks.load)?, share_of(&self.hooks.observer)?);
         let shares = Shares::new(self.alloc, self.flow.limits, load, observer)?;
         let told = Told::nothing(self.alloc, shares.is_observed(), None);
         let frames = Frames::within(self.alloc, None);
