@@ -408,12 +408,13 @@ fn so_many_run_at_once_and_no_more(rt: HostRuntime) -> Result<(), Fail> {
     for at_once in [1, 3] {
         let flow = Flow {
             at_once,
+            deadline: u64::MAX,
             ..flow_of(Limits::GREATEST)
         };
         let load = Load {
             requests: 12,
             round: 1,
-            kinds: [Kind::Naps(10), Kind::Quick, Kind::Quick],
+            kinds: [Kind::Naps(30), Kind::Quick, Kind::Quick],
         };
         let (tally, why) = served(&rt, rt.alloc(), flow, load, false).map_err(|_| "no memory")?;
         assert!(rt; why.is_none() && tally.counts() == (12, 0, 0, 0, 0));
