@@ -4,4 +4,3 @@ mod Looked
 pub mod Shown
 mod Tried
 pub mod Waited
-pub mod Timed

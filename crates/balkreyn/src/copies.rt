@@ -11,11 +11,11 @@ ghost use Rattle.balkreyn.specs.Looks.{IsCopyOf, Says, SaysWaits};
 ghost use Rattle.balkreyn.specs.Times.{SaysWhen};
 
 use crate::act::current::CurrentWaits;
-use crate::times::{Times, timed_script};
+use crate::times::Times;
 use realm_lock::{Look, RealmState};
 use scope_checks::records;
 use scope_rules::{Base, Event, Limits, Refusal};
-use script_journal::script_of;
+use script_journal::{script_of, timed_script};
 use std::alloc::Global;
 use std::marker::Model;
 use tree_dump::{Ages, ages_at, dump_of, tree_at, tree_of, tree_with};
@@ -195,7 +195,7 @@ pub(crate) fn journal_in(alloc: Global, copied: Result<Copied, Refusal>) -> Resu
 }
 
 /// The script of the history with the times of its events, and behind it the time of this look.
-#[tactic(auto, using(crate::proofs::Timed::with_times))]
+#[tactic(auto, using(script_journal::proofs::Timed::with_times))]
 pub(crate) fn timed_in(
     alloc: Global,
     copied: Result<Copied, Refusal>,
@@ -205,7 +205,13 @@ pub(crate) fn timed_in(
     ensures { (h : History) → IsCopyOf h copied → SaysWhen h times.now.found.items now result }
 {
     let copied = copied?;
-    match timed_script(alloc, &copied.base, copied.events.as_slice(), times, now) {
+    match timed_script(
+        alloc,
+        &copied.base,
+        copied.events.as_slice(),
+        times.found.as_slice(),
+        now,
+    ) {
         Ok(text) => Ok(text),
         Err(_) => Err(Refusal::Memory),
     }

@@ -1,13 +1,10 @@
 //! When events happened, as looks at a realm found them.
-ghost use Rattle.std.specs.Prelude.{◌≡◌, [], ◌++◌, ◌-◌, IfOk, OnOk, Some, length, option_map, string_bytes};
-ghost use Rattle.std.specs.List.{flat_map, range_with_len};
-ghost use Rattle.balkreyn.specs.Times.{IsNoted, at_text, last_time, new_time, timed_line, timed_lines, timed_text};
+ghost use Rattle.std.specs.Prelude.{◌≡◌, [], ◌-◌, option_map};
+ghost use Rattle.balkreyn.specs.Times.{IsNoted, last_time};
 
 use realm_lock::{Look, RealmState};
-use scope_rules::{Base, Event, Refusal, ScopeId, TaskId};
-use script_journal::{ShownEvent, ShownScript};
-use std::alloc::{AllocError, Global};
-use std::fmt;
+use scope_rules::{Refusal, ScopeId, TaskId};
+use std::alloc::Global;
 
 /// How far the history of a realm has come: what its last retirement left numbered, and how many events followed.
 /// `Times` shows by an example what it is for.
@@ -115,94 +112,4 @@ impl Times {
         let latest = self.latest()?;
         Some(self.looked.saturating_sub(latest))
     }
-
-    /// The time of the event at the place, if it is known and not that of the event before it.
-    #[tactic(auto, unfolding(crate::specs::Times::new_time))]
-    fn new_time(&self, place: usize) -> Option<u64>
-        ensures { result ≡ new_time self.now.found.items place }
-    {
-        let at = *self.found.get(place)?;
-        let before = place
-            .checked_sub(1)
-            .and_then(|before| self.found.get(before));
-        match before {
-            Some(before) if *before == at => None,
-            _ => Some(at),
-        }
-    }
-}
-
-/// A time as a comment of a script, if there is one.
-#[derive(Clone, Copy)]
-struct ShownAt(Option<u64>);
-
-impl fmt::Display for ShownAt {
-    ghost output = { λ a. Some (at_text a.0) };
-
-    #[tactic(auto, unfolding(crate::specs::Times::at_text))]
-    fn fmt<W: fmt::Write>(&self, f: &mut fmt::Formatter<W>) -> fmt::Result {
-        match self.0 {
-            Some(at) => write!(f, "# at {at}\n"),
-            None => Ok(()),
-        }
-    }
-}
-
-/// Appends the line of the event at the place, behind its time if that is new. It is refused for memory alone.
-#[tactic(auto, unfolding(crate::specs::Times::timed_line))]
-fn append_event(
-    text: &mut String,
-    base: &Base,
-    events: &[Event],
-    times: &Times,
-    place: usize,
-) -> Result<(), AllocError>
-    ensures { OnOk result (string_bytes text.new ≡ string_bytes text.old ++ timed_line base.now events.now times.now.found.items place) }
-{
-    let at = ShownAt(times.new_time(place));
-    match events.get(place) {
-        Some(event) => {
-            let shown = ShownEvent {
-                base,
-                event: *event,
-            };
-            write!(text, "{at}{shown}\n")
-        }
-        None => write!(text, "{at}"),
-    }
-}
-
-/// Appends the lines of all events. It is refused for memory alone.
-#[tactic(auto, using(std::proofs::lemmas::Grind::common_steps, scope_log::proofs::LogSteps::flat_map_more))]
-fn append_events(
-    text: &mut String,
-    base: &Base,
-    events: &[Event],
-    times: &Times,
-) -> Result<(), AllocError>
-    ensures { OnOk result (string_bytes text.new ≡ string_bytes text.old ++ timed_lines base.now events.now times.now.found.items) }
-{
-    for place in 0..events.len() {
-        append_event(text, base, events, times, place)?;
-    }
-    Ok(())
-}
-
-/// The script of the history that began with the base and had these events, with their times. It is refused for memory
-/// alone.
-#[tactic(auto, unfolding(script_journal::specs::Script::events_text))]
-pub(crate) fn timed_script(
-    alloc: Global,
-    base: &Base,
-    events: &[Event],
-    times: &Times,
-    now: u64,
-) -> Result<String, AllocError>
-    ensures { IfOk result (λ text. string_bytes text ≡ timed_text (record { base = base.now; events = events.now }) times.now.found.items now) }
-{
-    let begun = ShownScript { base, events: &[] };
-    let mut text = format!(in alloc; "{begun}")?;
-    append_events(&mut text, base, events, times)?;
-    write!(text, "{}", ShownAt(Some(now)))?;
-    Ok(text)
 }

@@ -1,3 +1,4 @@
 pub mod Anew
 pub mod Journals
 pub mod Script
+pub mod Timed

@@ -2,6 +2,7 @@
 
 ghost use Rattle.script_journal.specs.Anew.{JournalBringsAnew, JournalCountsAnew, NumbersDecideNothing};
 ghost use Rattle.script_journal.specs.Journals.{JournalIsAScript, JournalStays, JournalTellsAll, NoLineIsLost};
+ghost use Rattle.script_journal.specs.Timed.{TimesAreComments};
 
 /// A journal is a script. Of a legal history that began fresh, within limits, the script brings a fresh realm of
 /// these limits to that history again, with labels that expect no end: a script says none. No line of it is
@@ -26,4 +27,9 @@ pub fn journal_counts_from_its_base()
 /// each event; and each line is ended.
 pub fn no_line_is_lost()
     ensures { NoLineIsLost }
+{}
+
+/// The script of any history with any times is its script, with comments that say times before some lines and behind the last.
+pub fn times_are_comments()
+    ensures { TimesAreComments }
 {}

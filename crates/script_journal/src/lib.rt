@@ -8,7 +8,9 @@ mod journals;
 pub mod laws;
 mod lines;
 mod script;
+mod timed;
 
 pub use journals::journal_of;
 pub use lines::ShownEvent;
 pub use script::{ShownScript, script_of};
+pub use timed::timed_script;

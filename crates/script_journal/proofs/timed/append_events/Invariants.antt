@@ -1,8 +1,8 @@
 -- Those so far.
 use Rattle.std.proofs.Common.{◌≡◌, ◌++◌, string_bytes}
 use Rattle.std.specs.List.{flat_map, range_with_len}
-use Rattle.balkreyn_c.specs.Timing.{timed_line}
-use Rattle.balkreyn_c.proofs.times.append_events.Given as goal
+use Rattle.script_journal.specs.Timed.{timed_line}
+use Rattle.script_journal.proofs.timed.append_events.Given as goal
 
 abbrev pub invariant-loop-place : goal.invariant-loop-place
 invariant-loop-place l =

@@ -8,7 +8,7 @@ use Rattle.scope_rules.specs.declared.types.events.Event.{Event}
 use Rattle.scope_rules.specs.History.{History}
 use Rattle.scope_rules.specs.Origin.{Origin}
 use Rattle.script_journal.specs.Script.{binds_text, event_line, events_text, moment_text, pair_text, pairs_text, retire_behind, retire_text, script_text}
-use Rattle.balkreyn.specs.Times.{WithTimes, ended, time, line, at_text, line_of, new_time, timed_line, timed_text}
+use Rattle.script_journal.specs.Timed.{TimesAreComments, WithTimes, ended, time, line, at_text, line_of, new_time, timed_line, timed_text}
 
 -- one text with times behind another
 pub both : (a b c d : List ℕ) → WithTimes a b → WithTimes c d → WithTimes (a ++ c) (b ++ d)
@@ -69,7 +69,7 @@ module _ (base : Origin) (times : List ℕ) where
       both _ _ _ _ here (rw same at (rw (length-append first (e ∷ [])) at later))
 
 -- the script of a history with times is its script, but for comments
-pub with_times : (h : History) (times : List ℕ) (now : ℕ) → WithTimes (timed_text h times now) (script_text h)
+pub with_times : TimesAreComments
 with_times h times now =
     let lines = lines_from h.base times [] h.events in
     let all = both _ _ _ _ (both _ _ _ _ (moment h.base.moment) (binds h.base.binds)) lines in

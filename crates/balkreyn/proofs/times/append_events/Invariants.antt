@@ -1,9 +1,0 @@
--- Those so far.
-use Rattle.std.proofs.Common.{◌≡◌, ◌++◌, string_bytes}
-use Rattle.std.specs.List.{flat_map, range_with_len}
-use Rattle.balkreyn.specs.Times.{timed_line}
-use Rattle.balkreyn.proofs.times.append_events.Given as goal
-
-abbrev pub invariant-loop-place : goal.invariant-loop-place
-invariant-loop-place l =
-    string_bytes l.text ≡ string_bytes l.fn.text ++ flat_map (timed_line l.base l.events l.times.found.items) (range_with_len 0 l.place)
