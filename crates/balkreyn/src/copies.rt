@@ -195,7 +195,7 @@ pub(crate) fn journal_in(alloc: Global, copied: Result<Copied, Refusal>) -> Resu
 }
 
 /// The script of the history with the times of its events, and behind it the time of this look.
-#[tactic(auto, using(script_journal::proofs::Timed::with_times))]
+#[tactic(auto, using(script_journal::proofs::Commented::with_times))]
 pub(crate) fn timed_in(
     alloc: Global,
     copied: Result<Copied, Refusal>,

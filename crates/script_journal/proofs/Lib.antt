@@ -13,4 +13,4 @@ pub mod RaisedTasks
 pub mod RaisedChecks
 pub mod RaisedLegal
 pub mod Renumbered
-pub mod Timed
+pub mod Commented
