@@ -30,6 +30,7 @@ pub fn no_line_is_lost()
 {}
 
 /// The script of any history with any times is its script, with comments that say times before some lines and behind the last.
+#[tactic(auto, using(crate::proofs::Commented::with_times))]
 pub fn times_are_comments()
     ensures { TimesAreComments }
 {}
