@@ -40,10 +40,10 @@ flat_same f g (k ∷ ks) e =
 abbrev picked : {A : Type 0} → Bool → ℕ → Option A
 picked b i = cond b (slice_get [] i) None
 
-no_reading : {A : Type 0} (before n : ℕ) → reading_in {A} [] before n ≡ None
-no_reading {A} before n = by (nat_lt before n)
+no_reading : {A : Type 0} (before n : ℕ) → reading_in {A = A} [] before n ≡ None
+no_reading {A = A} before n = by (nat_lt before n)
   where
-    by : (b : Bool) → picked {A} b (n - before - 1) ≡ None
+    by : (b : Bool) → picked {A = A} b (n - before - 1) ≡ None
     by true = refl
     by false = refl
 

@@ -44,7 +44,7 @@ impl<'a> Ages<'a> {
 
     /// The same readings, and these waits.
     pub fn with(self, waits: Waits<'a>) -> Ages<'a>
-        ensures { clock_of result ≡ with_waits (clock_of self) waits }
+        ensures { clock_of result ≡ with_waits (clock_of self.entry) waits.entry }
     {
         Ages { waits, ..self }
     }
