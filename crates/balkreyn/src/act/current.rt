@@ -1,5 +1,5 @@
 //! In which calls the actors of a realm wait now, for who draws its tree.
-ghost use Rattle.balkreyn.specs.Acting.{Pauses};
+ghost use Rattle.std.specs.Prelude.{◌<◌, ◌≤◌};
 
 use realm_lock::RealmState;
 use scope_checks::Readings;
