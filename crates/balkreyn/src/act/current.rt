@@ -83,7 +83,7 @@ impl CurrentWaits {
     fn at(&self, actor: Actor) -> Option<CurrentWait> {
         let found = self.cell(actor)?.load(Ordering::SeqCst);
         let call = call_of(found % SHIFT)?;
-        let since = (found / SHIFT) as u32;
+        let since = u32::try_from(found / SHIFT).ok()?;
         Some(CurrentWait { call, since })
     }
 }
