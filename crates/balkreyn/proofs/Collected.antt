@@ -19,9 +19,6 @@ pub record Collected {V E : Type 0} (found left : List (Came V E)) (values : Lis
   pub none : All HasNotFailed seen
   pub so : IsSoFar seen values cut
 
-pub nothing_yet : {V E : Type 0} (found : List (Came V E)) → Collected found found [] None
-nothing_yet found = record { seen = []; all = refl; none = All-nil HasNotFailed; so = refl }
-
 one_on : {V E : Type 0} (seen left : List (Came V E)) (one : Came V E) → seen ++ one ∷ left ≡ (seen ++ one ∷ []) ++ left
 one_on seen left one = sym (append_assoc seen (one ∷ []) left)
 
@@ -41,36 +38,25 @@ one_value found left next values more cut value at pushed it = record {
     by None so = ap (λ s. s ++ came.Value value ∷ []) so ∙ (sym (map-append came.Value values (value ∷ [])) ∙ ap (map came.Value) (sym pushed))
     by (Some mark) so = more_behind it.seen (came.Value value) mark so
 
--- a mark more: the first
-pub first_cut : {V E : Type 0} (found left next : List (Came V E)) (values : List V) (mark : Mark) → left ≡ came.Cut mark ∷ next → Collected found left values None → Collected found next values (Some mark)
-first_cut found left next values mark at it = record {
+-- a mark more: the first, or a later one
+pub first_cut : {V E : Type 0} (found left next : List (Came V E)) (values : List V) (cut new : Option Mark) (mark : Mark) → left ≡ came.Cut mark ∷ next → cut ≡ None → new ≡ Some mark → Collected found left values cut → Collected found next values new
+first_cut found left next values cut new mark at before behind it = record {
   seen = it.seen ++ came.Cut mark ∷ [];
   all = it.all ∙ ap (λ l. it.seen ++ l) at ∙ one_on it.seen next (came.Cut mark);
   none = All-append HasNotFailed it.seen (came.Cut mark ∷ []) it.none (All-cons HasNotFailed (came.Cut mark) [] tt (All-nil HasNotFailed));
-  so = (values, [], ap (λ s. s ++ came.Cut mark ∷ []) it.so);
+  so = subst (IsSoFar (it.seen ++ came.Cut mark ∷ []) values) (sym behind) (values, [], ap (λ s. s ++ came.Cut mark ∷ []) (subst (IsSoFar it.seen values) before it.so));
 }
 
--- or a later one
-pub next_cut : {V E : Type 0} (found left next : List (Came V E)) (values : List V) (first mark : Mark) → left ≡ came.Cut mark ∷ next → Collected found left values (Some first) → Collected found next values (Some first)
-next_cut found left next values first mark at it = record {
+pub next_cut : {V E : Type 0} (found left next : List (Came V E)) (values : List V) (cut new : Option Mark) (first mark : Mark) → left ≡ came.Cut mark ∷ next → cut ≡ Some first → new ≡ Some first → Collected found left values cut → Collected found next values new
+next_cut found left next values cut new first mark at before behind it = record {
   seen = it.seen ++ came.Cut mark ∷ [];
   all = it.all ∙ ap (λ l. it.seen ++ l) at ∙ one_on it.seen next (came.Cut mark);
   none = All-append HasNotFailed it.seen (came.Cut mark ∷ []) it.none (All-cons HasNotFailed (came.Cut mark) [] tt (All-nil HasNotFailed));
-  so = more_behind it.seen (came.Cut mark) first it.so;
+  so = subst (IsSoFar (it.seen ++ came.Cut mark ∷ []) values) (sym behind) (more_behind it.seen (came.Cut mark) first (subst (IsSoFar it.seen values) before it.so));
 }
 
--- one that failed, the first
-pub one_failed : {V E : Type 0} (found left next : List (Came V E)) (values : List V) (cut : Option Mark) (error : E) → left ≡ came.Failed error ∷ next → Collected found left values cut → (before : List (Came V E)) × (after : List (Came V E)) × (found ≡ before ++ came.Failed error ∷ after) × All HasNotFailed before
-one_failed found left next values cut error at it = (it.seen, next, it.all ∙ ap (λ l. it.seen ++ l) at, it.none)
-
--- all were seen
-pub all_seen : {V E : Type 0} (found left : List (Came V E)) (values : List V) (cut : Option Mark) → left ≡ [] → (it : Collected found left values cut) → found ≡ it.seen
-all_seen found left values cut end it = it.all ∙ ap (λ l. it.seen ++ l) end ∙ append-nil it.seen
-
-pub all_have_values : {V E : Type 0} (found left : List (Came V E)) (values : List V) → left ≡ [] → Collected found left values None → found ≡ map came.Value values
-all_have_values found left values end it = all_seen found left values None end it ∙ it.so
-
-pub one_was_cut : {V E : Type 0} (found left : List (Came V E)) (values : List V) (mark : Mark) → left ≡ [] → Collected found left values (Some mark) → All HasNotFailed found × IsFirstCut found mark
-one_was_cut found left values mark end it =
-    let same = all_seen found left values (Some mark) end it in
-    (subst (All HasNotFailed) (sym same) it.none, subst (λ l. IsFirstCut l mark) (sym same) it.so)
+-- all were seen, and one was cut
+pub one_was_cut : {V E : Type 0} (found left : List (Came V E)) (values : List V) (cut : Option Mark) (mark : Mark) → left ≡ [] → cut ≡ Some mark → Collected found left values cut → All HasNotFailed found × IsFirstCut found mark
+one_was_cut found left values cut mark end is it =
+    let same : found ≡ it.seen = it.all ∙ ap (λ l. it.seen ++ l) end ∙ append-nil it.seen in
+    (subst (All HasNotFailed) (sym same) it.none, subst (λ l. IsFirstCut l mark) (sym same) (subst (IsSoFar it.seen values) is it.so))
