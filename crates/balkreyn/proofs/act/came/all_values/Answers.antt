@@ -22,4 +22,4 @@ loop-came-preserved g c = elim c.match-cut-3.branch [
 
 -- all were seen, and one was cut
 pub returns-in-Some-cut-2 : goal.returns-in-Some-cut-2
-returns-in-Some-cut-2 g c = one_was_cut c.args.found.items c.loop-came.came-iterator.rest.items c.loop-came.values.items c.loop-came.cut c.in-Some-cut-2.mark (search rules) c.in-Some-cut-2.is c.loop-came.invariant
+returns-in-Some-cut-2 g c = one_was_cut c.args.found.items c.loop-came.came-iterator.rest.items c.loop-came.values.items c.loop-came.cut c.in-Some-cut-2.mark c.in-None.ensures.steps c.in-Some-cut-2.is c.loop-came.invariant
