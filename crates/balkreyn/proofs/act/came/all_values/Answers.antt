@@ -1,4 +1,5 @@
 use Rattle.std.proofs.Common.{rules}
+use Rattle.std.proofs.lemmas.List.{nil_from_length}
 use Rattle.balkreyn.proofs.Collected.{first_cut, next_cut, one_value, one_was_cut}
 use Rattle.balkreyn.proofs.act.came.all_values.Goals as goal
 use Rattle.balkreyn.proofs.act.came.all_values.Goals.{in-Some-cut, in-None-cut}
@@ -22,4 +23,4 @@ loop-came-preserved g c = elim c.match-cut-3.branch [
 
 -- all were seen, and one was cut
 pub returns-in-Some-cut-2 : goal.returns-in-Some-cut-2
-returns-in-Some-cut-2 g c = one_was_cut c.args.found.items c.loop-came.came-iterator.rest.items c.loop-came.values.items c.loop-came.cut c.in-Some-cut-2.mark c.in-None.ensures.steps c.in-Some-cut-2.is c.loop-came.invariant
+returns-in-Some-cut-2 g c = one_was_cut c.args.found.items c.loop-came.came-iterator.rest.items c.loop-came.values.items c.loop-came.cut c.in-Some-cut-2.mark (nil_from_length c.loop-came.came-iterator.rest.items (search rules)) c.in-Some-cut-2.is c.loop-came.invariant
