@@ -4,7 +4,7 @@ ghost use Rattle.std.specs.Prelude.{◌<◌, ◌≤◌};
 use realm_lock::RealmState;
 use scope_checks::Readings;
 use scope_rules::types::values::MAIN;
-use scope_rules::{Actor, Limits, Refusal};
+use scope_rules::{Actor, Limits};
 use std::alloc::{AllocError, Global};
 use std::sync::atomic::{AtomicU64, Ordering};
 use tree_dump::{CurrentWait, WaitCall, Waits};
@@ -58,7 +58,11 @@ impl CurrentWaits {
     }
 
     /// What is found of main, and of each task of the realm since its last retirement.
-    pub(crate) fn found(&self, alloc: Global, realm: &RealmState) -> Result<FoundWaits, Refusal> {
+    pub(crate) fn found(
+        &self,
+        alloc: Global,
+        realm: &RealmState,
+    ) -> Result<FoundWaits, AllocError> {
         let mut tasks = Vec::new(alloc);
         let before = realm.retired_tasks();
         for index in 0..realm.tasks() - before {
