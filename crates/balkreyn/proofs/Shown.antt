@@ -15,7 +15,7 @@ use Rattle.balkreyn.specs.declared.times.Reached.{Reached}
 use Rattle.balkreyn.specs.declared.times.Times.{Times}
 use Rattle.balkreyn.specs.Acting.{RemainsNow, left_in}
 use Rattle.tree_dump.specs.Kept.{known_clock}
-use Rattle.balkreyn.specs.Looks.{SaysWaits}
+use Rattle.balkreyn.specs.Looks.{IsCopyOf, SaysWaits}
 use Rattle.balkreyn.specs.Times.{HasReached, IsNoted, NotesNow, SaysAgesNow, SaysWhen, SaysWhenNow}
 
 pub seen_so : (fits : LabelValue → EndValue → Type 0) (said told : History → Type 0) → ((h : History) → said h → told h) → IsSeen fits said → IsSeen fits told
@@ -34,8 +34,8 @@ reads_so old new said told then it = (it.0, then (history_seen new) it.1)
 pub notes_now : {K : Type 0} (reads : K → K → ℕ → Type 0) (start last : K) (at : ℕ) (old new : Times) (result : Result (Unit {0}) Refusal) (reached : Reached) → reads start last at → IsNoted old new reached at result → (h : History) → HasReached h reached → NotesNow reads start old new result h
 notes_now reads start last at old new result reached read noted h has = record { last = last; at = at; read = read; reached = reached; has = has; noted = noted }
 
-pub ages_now : {K Z : Type 0} (reads : K → K → ℕ → Type 0) (start last : K) (at : ℕ) (times : List ℕ) (result : Result (String Z) Refusal) → reads start last at → (h : History) → SaysWaits (known_clock h times at) h result → SaysAgesNow reads start times result h
-ages_now reads start last at times result read h says = record { last = last; at = at; read = read; says = says }
+pub ages_now : {K Z : Type 0} (reads : K → K → ℕ → Type 0) (start last : K) (at : ℕ) (times : List ℕ) (copied : Result History Refusal) (result : Result (String Z) Refusal) → reads start last at → ((h : History) → IsCopyOf h copied → SaysWaits (known_clock h times at) h result) → (h : History) → IsCopyOf h copied → SaysAgesNow reads start times result h
+ages_now reads start last at times copied result read says h is = record { last = last; at = at; read = read; says = says h is }
 
 pub says_now : {K Z : Type 0} (reads : K → K → ℕ → Type 0) (start last : K) (at : ℕ) (times : List ℕ) (result : Result (String Z) Refusal) → reads start last at → (h : History) → SaysWhen h times at result → SaysWhenNow reads start times result h
 says_now reads start last at times result read h says = record { last = last; at = at; read = read; says = says }

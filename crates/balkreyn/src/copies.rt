@@ -135,7 +135,9 @@ pub(crate) fn waiting_tree_in(
     ensures { (h : History) → IsCopyOf h copied → SaysWaits no_clock h result }
 {
     let realm = copied?.replayed(alloc)?;
-    let found = waits.found(alloc, &realm)?;
+    let Ok(found) = waits.found(alloc, &realm) else {
+        return Err(Refusal::Memory);
+    };
     match tree_with(alloc, &realm, &Ages::none().with(found.lent())) {
         Ok(text) => Ok(text),
         Err(_) => Err(Refusal::Memory),
@@ -157,7 +159,9 @@ pub(crate) fn waiting_tree_at(
         return Err(Refusal::Memory);
     };
     let realm = copied.replayed(alloc)?;
-    let found = waits.found(alloc, &realm)?;
+    let Ok(found) = waits.found(alloc, &realm) else {
+        return Err(Refusal::Memory);
+    };
     let Ok(kept) = ages_at(
         alloc,
         &realm,
