@@ -4,9 +4,9 @@ use super::waiters::{Desk, Waiter, Want, desk_of, fork_waiter};
 use balkreyn::act::{
     Acts, Hooks, Serves, Stop, TypedTask, fork_value, limited, next_done, scope, serve,
 };
-use balkreyn::looks::Times;
+use balkreyn::looks::{Times, WaitCall};
 use balkreyn::{
-    Joiner, Name, Options, PoolRuntime, Refusal, ScopeId, ServiceAnswer, ServiceError, Typed,
+    Bell, Joiner, Name, Options, PoolRuntime, Refusal, ScopeId, ServiceAnswer, ServiceError, Typed,
     Yields, named,
 };
 use std::alloc::Global;
@@ -16,7 +16,8 @@ use std::sync::Arc;
 use std::sync::atomic::{AtomicBool, AtomicU64, Ordering};
 use std::test::Fail;
 
-/// A service that has three jobs wait, for a value, for room and for a permit, and answers how many of its trees' lines say so.
+/// A service that has three jobs wait, for a value, for room and for a permit, and then three more behind a retirement. It
+/// answers of how many its trees say so.
 #[derive(Clone, Copy)]
 struct Draws;
 
@@ -28,22 +29,31 @@ impl ServiceAnswer for Draws {
 
 impl Serves<Waiter> for Draws {
     fn serve<X: Acts<Waiter>>(self, cx: &mut X) -> Result<u32, ServiceError> {
-        let (desk, _halves) = desk_of(cx)?;
-        let mut limiter = desk.limiter.share()?;
-        let found = scope(cx, Joiner::AwaitAll, Options::PLAIN, |cx, scope| {
-            let found = limited(cx, &mut limiter, |cx| drawn(cx, scope, &desk))?.value();
-            cx.join(scope)?;
-            Ok::<Option<u32>, Refusal>(found)
-        })?;
-        Ok(found.unwrap_or(0))
+        let first = of_round(cx, ["task 1 ", "task 2 ", "task 3 "])?;
+        cx.retire()?;
+        let second = of_round(cx, ["task 4 ", "task 5 ", "task 6 "])?;
+        Ok(first.saturating_add(second))
     }
 }
 
-/// How many lines say so, of a tree without times and of one with times; then the jobs are cancelled.
+/// Of how many of these tasks the trees say so, which are forked now.
+fn of_round<X: Acts<Waiter>>(cx: &mut X, tasks: [&str; 3]) -> Result<u32, Refusal> {
+    let (desk, _halves) = desk_of(cx)?;
+    let mut limiter = desk.limiter.share()?;
+    let found = scope(cx, Joiner::AwaitAll, Options::PLAIN, |cx, scope| {
+        let found = limited(cx, &mut limiter, |cx| drawn(cx, scope, &desk, tasks))?.value();
+        cx.join(scope)?;
+        Ok::<Option<u32>, Refusal>(found)
+    })?;
+    Ok(found.unwrap_or(0))
+}
+
+/// The same, of a tree without times and of one with times; then the jobs are cancelled.
 fn drawn<X: Acts<Waiter>>(
     cx: &mut X,
     scope: ScopeId,
     desk: &Arc<Desk, Global>,
+    tasks: [&str; 3],
 ) -> Result<u32, Refusal> {
     for want in [Want::Value, Want::Room, Want::Permit] {
         fork_waiter(cx, scope, desk, want, false, 20)?;
@@ -53,13 +63,14 @@ fn drawn<X: Acts<Waiter>>(
     cx.note(&mut times)?;
     let timed = cx.timed_tree(&times)?;
     cx.cancel(scope)?;
+    let calls = [
+        (", waits in receive", ", waits in receive for "),
+        (", waits in send", ", waits in send for "),
+        (", waits in permit", ", waits in permit for "),
+    ];
     let mut count = 0u32;
-    for (plain, aged) in [
-        (", waits in receive\n", ", waits in receive for "),
-        (", waits in send\n", ", waits in send for "),
-        (", waits in permit\n", ", waits in permit for "),
-    ] {
-        if tree.contains(plain) && timed.contains(aged) {
+    for (task, (plain, aged)) in tasks.into_iter().zip(calls) {
+        if says(tree.as_str(), task, plain) && says(timed.as_str(), task, aged) {
             count = count.saturating_add(1);
         }
     }
@@ -69,10 +80,20 @@ fn drawn<X: Acts<Waiter>>(
     Ok(count)
 }
 
+/// Whether a line of the tree is of this task, and has these words.
+fn says(tree: &str, task: &str, words: &str) -> bool {
+    for line in tree.lines() {
+        if line.trim_start().starts_with(task) && line.contains(words) {
+            return true;
+        }
+    }
+    false
+}
+
 #[test]
 fn a_tree_says_at_what_its_jobs_wait(rt: HostRuntime) -> Result<(), Fail> {
     let found = serve::<Waiter, (), Draws, _>(&rt, rt.alloc(), 4, Hooks::none(), Draws);
-    assert!(rt; found == Ok(3));
+    assert!(rt; found == Ok(6));
     Ok(())
 }
 
@@ -109,6 +130,7 @@ enum Call {
     Join,
     Close,
     NextDone,
+    Ring,
 }
 
 /// The service: main waits so.
@@ -126,20 +148,21 @@ impl ServiceAnswer for Waits {
 
 impl Serves<Typed<Looks>> for Waits {
     fn serve<X: Acts<Typed<Looks>>>(self, cx: &mut X) -> Result<(), ServiceError> {
+        let options = cx.move_on_after(400);
         let waited: Result<(), Refusal> = scope(
             cx,
             Joiner::AwaitAll,
-            Options::PLAIN,
+            options,
             |cx, own| waits_in(cx, own, self),
         );
         match (self.call, waited) {
-            (Call::Close, Err(Refusal::NotJoined)) => Ok(()), // the close waited
+            (Call::Close | Call::Ring, Err(Refusal::NotJoined)) => Ok(()), // no join waited
             (_, waited) => Ok(waited?),
         }
     }
 }
 
-/// Forks the job, and waits for it in the call; for a close only until it has begun.
+/// Forks the job, and waits in the call; for a close only until the job has begun.
 fn waits_in<X: Acts<Typed<Looks>>>(cx: &mut X, own: ScopeId, waits: Waits) -> Result<(), Refusal> {
     let mut slots = Vec::new(cx.alloc());
     slots.push(fork_value(cx, own, named(b"looks"), waits.looks)?)?;
@@ -149,6 +172,10 @@ fn waits_in<X: Acts<Typed<Looks>>>(cx: &mut X, own: ScopeId, waits: Waits) -> Re
         }
         Call::NextDone => {
             next_done(cx, &mut slots)?;
+        }
+        Call::Ring => {
+            let bell = Bell::new(cx.alloc())?; // the deadline ends the wait
+            cx.wait_rung(WaitCall::Ring, &bell, 0)?;
         }
         Call::Close => {
             for _ in 0..1_000u32 {
@@ -189,5 +216,6 @@ fn a_tree_says_in_which_call_main_waits(rt: HostRuntime) -> Result<(), Fail> {
     assert!(rt; is_said(rt, alloc, Call::Join, ", main waits in join\n") == Some(true));
     assert!(rt; is_said(rt, alloc, Call::Close, ", main waits in close\n") == Some(true));
     assert!(rt; is_said(rt, alloc, Call::NextDone, ", main waits in next_done\n") == Some(true));
+    assert!(rt; is_said(rt, alloc, Call::Ring, ", main waits in wait_rung\n") == Some(true));
     Ok(())
 }

@@ -280,7 +280,7 @@ impl<K: Handle, O: Observes, S: Spawner<N>, N: RealmName> Cx<'_, K, O, S, N> {
         self.hooks.waits.end(self.ctx.actor());
     }
 
-    /// The same, if there are any news.
+    /// Calls the observer about the news, if there are any.
     fn report_news(&self, news: Option<Happening>) {
         if let Some(what) = news {
             self.report(what);
