@@ -175,6 +175,14 @@ impl Tree {
         self.cancels[(scope - 1) as usize].is_some()
     }
 
+    /// Whether the scope has an own cancel.
+    pub fn has_own_cancel(&self, scope: ScopeId) -> bool
+        requires { IsAdded self.now scope }
+        ensures { result ≡ is_some (own_of self.now scope) }
+    {
+        self.nodes[(scope - 1) as usize].own.is_some()
+    }
+
     /// The earliest own cancel on the chain, the nearest on a tie, with its place. The scope whose it is
     /// has no greater number.
     pub fn first_cancel(&self, scope: ScopeId) -> Option<FirstCancel>

@@ -26,7 +26,7 @@ use Rattle.deadline_core.proofs.First.{listed, found}
 pair_cmp_total : IsTotalOrder pair_cmp
 pair_cmp_total = then_total (on_total (λ (p : ℕ × ℕ). p.0) nat_cmp_total) (on_total (λ (p : ℕ × ℕ). p.1) nat_cmp_total)
 
-rises : (p q : ℕ × ℕ) → pair_cmp p q ≡ Less → (p.0 ≤ q.0) × (p.0 ≡ q.0 → p.1 < q.1)
+pub rises : (p q : ℕ × ℕ) → pair_cmp p q ≡ Less → (p.0 ≤ q.0) × (p.0 ≡ q.0 → p.1 < q.1)
 rises (d, s) (e, t) h = (let k : d ≤ e = grind (arith, nat_tests) in k, λ same. let k : s < t = grind (arith, nat_tests) in k)
 
 abbrev pub has : List (ℕ × ℕ) → ℕ → ℕ → Bool
@@ -56,7 +56,8 @@ module _ (now : ℕ) (ks : List (ℕ × ℕ)) where
   has_key k lt = list_any-from_Contains (eq_by_cmp_equiv pair_cmp_total) (key k) ks (Contains-get_or ks k (0, 0) lt)
 
   module _ (m : Moments) (lists : Lists (has ks) (fin.get m)) (sorted : IsStrictlySortedBy pair_cmp ks) where
-    key_found : (k : ℕ) → k < length ks → fin.get m (key k).1 ≡ Some (key k).0
+    -- (of whatever moment)
+    pub key_found : (k : ℕ) → k < length ks → fin.get m (key k).1 ≡ Some (key k).0
     key_found k lt = found (has ks) m lists (key k).0 (key k).1 (has_key k lt)
 
     due_listed : (s : ℕ) → Contains (scopes_up_to now ks) s → IsTrue (is_due m now s)

@@ -2,4 +2,5 @@ pub mod Views
 pub mod Listing
 pub mod First
 pub mod Due
+pub mod InOrder
 pub mod Pairs

@@ -1,5 +1,5 @@
 -- What an index of deadlines stands for: a finite map from scopes to moments, and which of its scopes are due.
-use Rattle.std.specs.Prelude.{◌≡◌, ℕ, ◌<◌, ◌≤◌, ◌↔◌, Bool, false, nat_le, Option, Some, None, List, length, slice_index, IsTrue}
+use Rattle.std.specs.Prelude.{◌≡◌, ℕ, ◌<◌, ◌≤◌, ◌↔◌, Bool, false, nat_le, Option, Some, None, List, length, slice_get, slice_index, IsTrue}
 use Rattle.std.specs.List.{Contains}
 use Rattle.std.specs.Ordering.{nat_cmp}
 use Rattle.std.specs.FinMap as map
@@ -37,3 +37,9 @@ Precedes m one other = (a b : ℕ) → map.get m one ≡ Some a → map.get m ot
 pub record IsDueInOrder (m : Moments) (now : ℕ) (scopes : List ℕ) : Type 0 where
   pub all : (scope : ℕ) → Contains scopes scope ↔ IsTrue (is_due m now scope)
   pub in_order : (i j : ℕ) → i < j → j < length scopes → Precedes m (slice_index scopes i) (slice_index scopes j)
+
+-- the pairs are the deadline of each scope that has one, with the scope, the earlier first
+pub record AreInOrder (m : Moments) (pairs : List (ℕ × ℕ)) : Type 0 where
+  pub each : (i : ℕ) (p : ℕ × ℕ) → slice_get pairs i ≡ Some p → map.get m p.1 ≡ Some p.0
+  pub all : (scope deadline : ℕ) → map.get m scope ≡ Some deadline → (i : ℕ) × (slice_get pairs i ≡ Some (deadline, scope))
+  pub in_order : (i j : ℕ) (p q : ℕ × ℕ) → i < j → slice_get pairs i ≡ Some p → slice_get pairs j ≡ Some q → p.0 ≤ q.0

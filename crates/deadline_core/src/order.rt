@@ -2,10 +2,11 @@ ghost use Rattle.std.specs.Prelude.{◌≡◌, ℕ, Some, false, IfOk, IfSome, I
 ghost use Rattle.std.specs.FinMap as map;
 ghost use Rattle.std.specs.BTreeSet.{IsOrdered};
 ghost use Rattle.deadline_core.specs.Ordered.{pair_cmp, scopes_up_to};
-ghost use Rattle.deadline_core.specs.Moments.{IsFirst, IsFirstDue, IsDueInOrder, is_due};
+ghost use Rattle.deadline_core.specs.Moments.{AreInOrder, IsFirst, IsFirstDue, IsDueInOrder, is_due};
 
 use scope_rules::ScopeId;
 use std::alloc::{AllocError, Global};
+use std::collections::btree_set::Iter;
 use std::collections::BTreeSet;
 use std::marker::Model;
 
@@ -86,6 +87,13 @@ impl DeadlineOrder {
         ensures first { IfSome result (λ p. IsFirst self.now p.0 p.1) }
     {
         self.pairs.first().copied()
+    }
+
+    /// Each deadline with its scope, the earlier first.
+    pub fn in_order(&self) -> Iter<'_, (u64, ScopeId)>
+        ensures { AreInOrder self.now result }
+    {
+        self.pairs.iter()
     }
 
     /// Takes out the earliest deadline, if it is at or before `now`, and answers its scope.

@@ -22,6 +22,7 @@ pub mod Moves
 pub mod Passing
 pub mod Opens
 pub mod CancelsKept
+pub mod ClosedCancels
 pub mod Coming
 mod CancelOrders
 pub mod TaskLists

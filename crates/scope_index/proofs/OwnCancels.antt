@@ -63,7 +63,7 @@ overdue_start : (b : Origin) → OverdueIsCancelled (record { base = b; events =
 unfolding OverdueIsCancelled opening earliest
 overdue_start b s o is past = absurd cc
 
-some_either : {A : Type 0} (o p : Option A) → is_some p ≡ true → is_some (option_or o p) ≡ true
+pub some_either : {A : Type 0} (o p : Option A) → is_some p ≡ true → is_some (option_or o p) ≡ true
 some_either None p some = some
 some_either (Some x) p some = refl
 

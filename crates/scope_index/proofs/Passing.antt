@@ -7,15 +7,16 @@ use Rattle.std.specs.FinMap as map
 use Rattle.std.proofs.lemmas.Bool.{eqb-true, eq-eqb, le-ltb, le-leb, leb-true, leb-false, ltb-true, ltb-false}
 use Rattle.std.proofs.lemmas.Option.{slice_get_within}
 use Rattle.scope_rules.specs.declared.types.answers.CauseKind.TheVariants.{Deadline}
+use Rattle.scope_rules.specs.declared.types.records.FirstCancel.{FirstCancel}
 use Rattle.deadline_core.specs.Moments.{Moments, is_past, is_due, IsFirstDue}
 use Rattle.cancel_tree.specs.declared.rows.ScopeNode.{ScopeNode}
 use Rattle.cancel_tree.specs.Rows as rows
-use Rattle.cancel_tree.specs.Rows.{IsAdded, IsLatest, changed, cancel_at, with_own, deadline_of}
+use Rattle.cancel_tree.specs.Rows.{IsAdded, IsLatest, changed, cancel_at, with_own}
 use Rattle.cancel_tree.proofs.RowLaws.{altered_length}
 use Rattle.cancel_tree.proofs.LatestLaws.{latest_cancel}
 use Rattle.join_rules.specs.JoinerStanding.{JoinerStanding}
-use Rattle.scope_index.specs.CancelTables.{AreKept, to_come}
-use Rattle.scope_index.proofs.CancelsKept.{tied}
+use Rattle.scope_index.specs.CancelTables.{AreKept, awaited, awaited_of, to_come}
+use Rattle.scope_index.proofs.CancelsKept.{cancelled_awaits, tied}
 use Rattle.scope_index.proofs.CancelSteps.{ticked}
 use Rattle.scope_index.proofs.TableSteps.{changed_rows, at_row}
 
@@ -61,11 +62,11 @@ pub none_of : {A : Type 0} (x : A) → None ≡ Some x → ⊥
 none_of x is = absurd cc
 
 -- a scope whose deadline is still to come has a row
-row_there : (before : ℕ) (nodes : List ScopeNode) (n d : ℕ) → to_come before (deadline_of nodes n) ≡ Some d → IsAdded nodes n
+pub row_there : (before : ℕ) (nodes : List ScopeNode) (n d : ℕ) → awaited_of before nodes n ≡ Some d → IsAdded nodes n
 row_there before nodes n d is = by (rows.row nodes n) refl
   where
     by : (r : Option ScopeNode) → rows.row nodes n ≡ r → IsAdded nodes n
-    by None none = absurd (none_of d (sym (ap (λ o. to_come before (option_and_then (λ (t : ScopeNode). t.deadline) o)) none) ∙ is))
+    by None none = absurd (none_of d (sym (ap (option_and_then (awaited before)) none) ∙ is))
     by (Some t) there = row_within nodes n t there
 
 due_was : (now place d : ℕ) (first left : Moments) (old nodes : List ScopeNode) (n : ℕ) → IsPassing now place first left old nodes → map.get left n ≡ Some d → map.get first n ≡ Some d
@@ -158,22 +159,22 @@ come_now before now (Some d) on none = by (nat_lt before d) refl (nat_lt now d) 
     by false at true then unpast = absurd (omega (arith, ltb-true now d then, ltb-false before d at, on))
     by false at false then unpast = refl
 
-past_now : (before now : ℕ) (d : Option ℕ) → is_past now (to_come before d) ≡ true → to_come now d ≡ None
-past_now before now None past = refl
-past_now before now (Some d) past = by (nat_lt before d) past
+-- what is left in the index of a row whose deadline was not taken out
+rest_awaited : (before now : ℕ) (r : Option ScopeNode) → before ≤ now → is_past now (option_and_then (awaited before) r) ≡ false → option_and_then (awaited before) r ≡ option_and_then (awaited now) r
+rest_awaited before now None on none = refl
+rest_awaited before now (Some t) on none = by (is_some t.own) none
   where
-    by : (b : Bool) → is_past now (cond b (Some d) None) ≡ true → to_come now (Some d) ≡ None
-    by true due = ap (λ b. cond b (Some d) None) (le-ltb now d (leb-true d now due))
-    by false due = absurd cc
+    by : (b : Bool) → is_past now (cond b None (to_come before t.deadline)) ≡ false → cond b None (to_come before t.deadline) ≡ cond b None (to_come now t.deadline)
+    by true unpast = refl
+    by false unpast = come_now before now t.deadline on unpast
 
--- the deadlines stay
-deadlines_stay : (now place : ℕ) (first left : Moments) (old nodes : List ScopeNode) (n : ℕ) → IsPassing now place first left old nodes → deadline_of nodes n ≡ deadline_of old n
-deadlines_stay now place first left old nodes n passing = ap (option_and_then (λ (t : ScopeNode). t.deadline)) (passing.rows n) ∙ by (rows.row old n) (is_taken now first left n)
-  where
-    by : (r : Option ScopeNode) (b : Bool) → option_and_then (λ (t : ScopeNode). t.deadline) (option_map (λ t. cond b (with_own (cancel_at place n Deadline) t) t) r) ≡ option_and_then (λ (t : ScopeNode). t.deadline) r
-    by None b = refl
-    by (Some t) true = refl
-    by (Some t) false = refl
+abbrev step_by : ℕ → ℕ → Bool → ScopeNode → ScopeNode
+step_by place n b t = cond b (with_own (cancel_at place n Deadline) t) t
+
+-- a row with an own cancel awaits nothing
+over : (now : ℕ) (c : FirstCancel) (r : Option ScopeNode) → option_and_then (awaited now) (option_map (with_own c) r) ≡ None
+over now c None = refl
+over now c (Some t) = cancelled_awaits now c t
 
 -- once nothing is due, the index is that of the new moment
 pub passing_kept : (before at now place : ℕ) (first left : Moments) (old nodes : List ScopeNode) (accounts : List JoinerStanding) → at ≤ now → AreKept before at old accounts first → IsPassing now place first left old nodes
@@ -184,10 +185,20 @@ passing_kept before at now place first left old nodes accounts on kept passing n
   indexed = λ n.
       elim (passing.rest n) [
         | inl same ↦ (let is = same ∙ kept.indexed n in
-            is ∙ (come_now at now (deadline_of old n) on (sym (ap (is_past now) is) ∙ none n) ∙ ap (to_come now) (sym (deadlines_stay now place first left old nodes n passing))))
-        | inr gone ↦ gone.0 ∙ (sym (past_now at now (deadline_of old n) (sym (ap (is_past now) (kept.indexed n)) ∙ gone.1)) ∙ ap (to_come now) (sym (deadlines_stay now place first left old nodes n passing)))
+            is ∙ (rest_awaited at now (rows.row old n) on (sym (ap (is_past now) is) ∙ none n)
+            ∙ (ap (option_and_then (awaited now)) (same_rows now place first n (rows.row old n) ∙ ap (λ b. option_map (step_by place n b) (rows.row old n)) (not_taken n same)) ∙ sym (awaited_then n))))
+        | inr gone ↦ gone.0 ∙ sym (awaited_then n ∙ (ap (λ b. option_and_then (awaited now) (option_map (step_by place n b) (rows.row old n))) (was_taken n gone) ∙ over now (cancel_at place n Deadline) (rows.row old n)))
       ];
 }
+  where
+    awaited_then : (n : ℕ) → awaited_of now nodes n ≡ option_and_then (awaited now) (option_map (step_by place n (is_taken now first left n)) (rows.row old n))
+    awaited_then n = ap (option_and_then (awaited now)) (passing.rows n)
+
+    not_taken : (n : ℕ) → map.get left n ≡ map.get first n → is_taken now first first n ≡ is_taken now first left n
+    not_taken n same = ap (λ o. is_due first now n && not (is_past now o)) (sym same)
+
+    was_taken : (n : ℕ) → (map.get left n ≡ None) × (is_due first now n ≡ true) → is_taken now first left n ≡ true
+    was_taken n gone = ap (λ o. is_due first now n && not (is_past now o)) gone.0 ∙ ap (λ b. b && true) gone.1
 
 -- and each row is that of the tick
 pub passing_ticked : (before at now place : ℕ) (first left : Moments) (old nodes : List ScopeNode) (accounts : List JoinerStanding) → AreKept before at old accounts first → IsPassing now place first left old nodes
@@ -198,12 +209,24 @@ passing_ticked before at now place first left old nodes accounts kept passing no
     and_true true = refl
     and_true false = refl
 
-    taken : is_taken now first left n ≡ is_past now (to_come at (deadline_of old n))
+    taken : is_taken now first left n ≡ is_past now (awaited_of at old n)
     taken = ap (λ b. is_due first now n && not b) (none n) ∙ (and_true (is_due first now n) ∙ ap (is_past now) (kept.indexed n))
+
+    -- a row with an own cancel keeps it
+    kept_own : (t : ScopeNode) → cond (is_past now (awaited at t)) (with_own (cancel_at place n Deadline) t) t ≡ ticked at now place n t
+    kept_own t = with t.own
+      where
+        both : (x : FirstCancel) (b : Bool) → record t { own = Some x } ≡ cond b (with_own (cancel_at place n Deadline) (record t { own = Some x })) (record t { own = Some x })
+        both x true = refl
+        both x false = refl
+
+        with : (o : Option FirstCancel) → cond (is_past now (cond (is_some o) None (to_come at t.deadline))) (with_own (cancel_at place n Deadline) (record t { own = o })) (record t { own = o }) ≡ ticked at now place n (record t { own = o })
+        with None = refl
+        with (Some x) = both x (is_past now (to_come at t.deadline))
 
     by : (r : Option ScopeNode) → rows.row old n ≡ r → option_map (taken_step now place first left n) r ≡ option_map (ticked at now place n) r
     by None is = refl
-    by (Some t) is = ap (λ b. Some (cond b (with_own (cancel_at place n Deadline) t) t)) (taken ∙ ap (λ r. is_past now (to_come at (option_and_then (λ (x : ScopeNode). x.deadline) r))) is)
+    by (Some t) is = ap (λ b. Some (cond b (with_own (cancel_at place n Deadline) t) t)) (taken ∙ ap (λ r. is_past now (option_and_then (awaited at) r)) is) ∙ ap Some (kept_own t)
 
 held : (m : Moments) (n d k : ℕ) → map.get m n ≡ Some d → map.len m ≡ k → 1 ≤ k
 held m n d zero is none = absurd (none_of d (sym (map.get-empty nat_cmp n) ∙ (sym (ap (λ x. map.get x n) (map.empty_of_len m none)) ∙ is)))

@@ -1,11 +1,12 @@
 -- What is kept of cancels: a row a scope of what the tree was told, an account a scope, and the moment.
 -- Rows count from 1, and `before` scopes were numbered before them.
-use Rattle.std.specs.Prelude.{◌≡◌, ◌≢◌, ℕ, ◌+◌, ◌-◌, ◌^◌, ◌<◌, ◌≤◌, Bool, true, nat_lt, Option, Some, None, List, [], ◌∷◌, ◌++◌, length, slice_get, if◌then◌else◌}
+use Rattle.std.specs.Prelude.{◌≡◌, ◌≢◌, ℕ, ◌+◌, ◌-◌, ◌^◌, ◌<◌, ◌≤◌, Bool, true, nat_lt, Option, Some, None, List, [], ◌∷◌, ◌++◌, length, slice_get, if◌then◌else◌, is_some}
+use Rattle.std.specs.Option.{option_and_then}
 use Rattle.std.specs.FinMap as map
 use Rattle.deadline_core.specs.Moments.{Moments}
 use Rattle.scope_rules.specs.declared.types.answers.CauseKind.{CauseKind}
 use Rattle.cancel_tree.specs.declared.rows.ScopeNode.{ScopeNode}
-use Rattle.cancel_tree.specs.Rows.{deadline_of, new_row, changed, with_own, with_deadline, cancel_at}
+use Rattle.cancel_tree.specs.Rows.{row, new_row, changed, with_own, with_deadline, cancel_at}
 use Rattle.scope_rules.specs.declared.types.values.Completion.{Completion}
 use Rattle.join_rules.specs.JoinerStanding.{JoinerStanding, HasRoom, SameJoiner, SameButRoom}
 use Rattle.join_rules.specs.Totals.{counted}
@@ -21,9 +22,16 @@ abbrev pub to_come : ℕ → Option ℕ → Option ℕ
 to_come now None = None
 to_come now (Some deadline) = if nat_lt now deadline then Some deadline else None
 
--- the index has the deadline of each row, while it is still to come
+-- what the index has of a row: its deadline, while it is still to come, and would be its own cancel
+abbrev pub awaited : ℕ → ScopeNode → Option ℕ
+awaited now t = if is_some t.own then None else to_come now t.deadline
+
+-- the same of the row with this number
+abbrev pub awaited_of : ℕ → List ScopeNode → ℕ → Option ℕ
+awaited_of now nodes n = option_and_then (awaited now) (row nodes n)
+
 abbrev pub IsIndexed : ℕ → List ScopeNode → Moments → Type 0
-IsIndexed now nodes moments = (n : ℕ) → map.get moments n ≡ to_come now (deadline_of nodes n)
+IsIndexed now nodes moments = (n : ℕ) → map.get moments n ≡ awaited_of now nodes n
 
 -- there is an account for each row, the numbers fit 32 bits, and the index is that of the rows
 pub record AreKept (before now : ℕ) (nodes : List ScopeNode) (accounts : List JoinerStanding) (moments : Moments) : Type 0 where

@@ -1,15 +1,22 @@
 -- The deadline of a realm that comes next.
-use Rattle.std.specs.Prelude.{◌≡◌, ℕ, ◌<◌, ◌≤◌, Some}
+use Rattle.std.specs.Prelude.{◌≡◌, ℕ, ◌<◌, ◌≤◌, false, Some}
 use Rattle.scope_rules.specs.History.{History, moment}
-use Rattle.scope_rules.specs.Cancels.{counting_deadline}
+use Rattle.scope_rules.specs.Scopes.{closed}
+use Rattle.scope_rules.specs.Cancels.{counting_deadline, is_cancelled}
 
--- some scope has it while it counts, it is to come, and none that is to come is earlier
+-- the deadline of scope s is to come and can do something: the scope isn't joined, closed or cancelled
+pub record IsComing (h : History) (s deadline : ℕ) : Type 0 where
+  pub counts : counting_deadline h s ≡ Some deadline
+  pub unclosed : closed h s ≡ false
+  pub live : is_cancelled h s ≡ false
+  pub coming : moment h < deadline
+
+-- it comes to some scope, and none comes earlier
 pub record IsNextDeadline (h : History) (deadline : ℕ) : Type 0 where
   pub scope : ℕ
-  pub stands : counting_deadline h scope ≡ Some deadline
-  pub coming : moment h < deadline
-  pub earliest : (s later : ℕ) → counting_deadline h s ≡ Some later → moment h < later → deadline ≤ later
+  pub comes : IsComing h scope deadline
+  pub earliest : (s later : ℕ) → IsComing h s later → deadline ≤ later
 
--- whatever counts has passed
+-- none comes
 abbrev pub NoDeadlineComes : History → Type 0
-NoDeadlineComes h = (s deadline : ℕ) → counting_deadline h s ≡ Some deadline → deadline ≤ moment h
+NoDeadlineComes h = (s deadline : ℕ) → IsComing h s deadline → ⊥

@@ -8,9 +8,9 @@ ghost use Rattle.scope_rules.specs.History.{History, followed, moment};
 ghost use Rattle.scope_rules.specs.Scopes.{joined, level, surrounding};
 ghost use Rattle.scope_rules.specs.Cancels.{first_cancel, cause, is_cancelled, effective};
 ghost use Rattle.scope_rules.specs.Legal.{Legal};
-ghost use Rattle.cancel_tree.specs.Rows.{IsAdded, IsLatest, deadline_of, level_in};
+ghost use Rattle.cancel_tree.specs.Rows.{IsAdded, IsLatest, level_in};
 ghost use Rattle.join_rules.specs.JoinerStanding.{HasRoom, StandsFor};
-ghost use Rattle.scope_index.specs.CancelTables.{CancelTable, HasRow, HasReserved, HasCounted, AreOneMore, account_at, cancelled, deadlined, to_come, with_scope};
+ghost use Rattle.scope_index.specs.CancelTables.{CancelTable, HasRow, HasReserved, HasCounted, AreOneMore, account_at, awaited_of, cancelled, deadlined, with_scope};
 ghost use Rattle.scope_index.specs.CancelsOf.{AreCancelsOf, IsCancelOrderOf, IsMoved, IsOpened};
 ghost use Rattle.scope_index.specs.Coming.{IsNextDeadline, NoDeadlineComes};
 ghost use Rattle.scope_index.specs.CancelLending.{KeepsTable};
@@ -27,7 +27,8 @@ use std::alloc::{AllocError, Global};
 use std::marker::Model;
 
 /// What cancels the scopes of a realm. The scopes since the base have the rows of the tree, in order of
-/// their numbers, and an account of their joiner each; the index has the deadlines that are still to come.
+/// their numbers, and an account of their joiner each; the index has the deadlines that are still to come
+/// and would be the own cancels of their scopes.
 #[derive(Drop)]
 pub struct CancelIndex {
     before: u32,
@@ -86,15 +87,18 @@ impl CancelIndex {
         self.tree.effective_deadline(scope - self.before)
     }
 
-    /// The deadline that comes next, in milliseconds: the earliest after the moment of those that count.
-    #[tactic(auto, using(crate::proofs::Coming::next_found, crate::proofs::Coming::none_comes))]
+    /// The deadline that comes next, in milliseconds: the earliest after the moment of those that count, of
+    /// scopes that aren't cancelled. It takes time by the open scopes that were cancelled with a scope around
+    /// them and have an earlier one.
     pub fn next_deadline(&self) -> Option<u64>
         ensures { (L : Limits) (h : History) → Legal L h → AreCancelsOf h self.now → MatchOption result (NoDeadlineComes h) (IsNextDeadline h) }
     {
-        match self.deadlines.earliest() {
-            Some((deadline, _)) => Some(deadline),
-            None => None,
+        for &(deadline, row) in self.deadlines.in_order() {
+            if !self.tree.is_cancelled(row) {
+                return Some(deadline);
+            }
         }
+        None
     }
 
     /// The cancelled scopes in order of their cancellation, those that one event cancelled by their
@@ -152,7 +156,10 @@ impl CancelIndex {
         requires latest { IsLatest self.old.nodes place }
         ensures { self.new ≡ cancelled self.old scope kind place }
     {
-        self.tree.cancel(scope - self.before, kind, place as u64);
+        let row = scope - self.before;
+        let before = self.awaited(row);
+        self.tree.cancel(row, kind, place as u64);
+        self.deadlines.remove(row, before);
     }
 
     /// The scope was joined: its deadline counts no more. Takes no memory.
@@ -197,18 +204,20 @@ impl CancelIndex {
         ensures { self.new ≡ deadlined self.old scope None }
     {
         let row = scope - self.before;
-        let before = self.deadline_to_come(row);
+        let before = self.awaited(row);
         self.tree.clear_deadline(row);
         self.deadlines.remove(row, before);
     }
 
-    /// The deadline that the index has of the row: its own, while that is still to come.
-    fn deadline_to_come(&self, row: ScopeId) -> Option<u64>
+    /// The deadline that the index has of the row: its own, while that is still to come and would cancel it.
+    fn awaited(&self, row: ScopeId) -> Option<u64>
         requires { IsAdded self.now.nodes row }
-        ensures { result ≡ to_come self.now.moment (deadline_of self.now.nodes row) }
+        ensures { result ≡ awaited_of self.now.moment self.now.nodes row }
     {
         match self.tree.deadline(row) {
-            Some(deadline) if deadline > self.moment => Some(deadline),
+            Some(deadline) if deadline > self.moment && !self.tree.has_own_cancel(row) => {
+                Some(deadline)
+            }
             _ => None,
         }
     }
@@ -221,8 +230,10 @@ impl CancelIndex {
         ensures refused { OnErr result (self.new ≡ self.old) }
     {
         let row = scope - self.before;
-        let before = self.deadline_to_come(row);
-        self.deadlines.set(row, before, deadline)?;
+        if !self.tree.has_own_cancel(row) {
+            let before = self.awaited(row);
+            self.deadlines.set(row, before, deadline)?;
+        }
         self.tree.set_deadline(row, deadline);
         Ok(())
     }
@@ -234,7 +245,7 @@ impl CancelIndex {
         ensures { self.new ≡ deadlined self.old scope (Some deadline) }
     {
         let row = scope - self.before;
-        let before = self.deadline_to_come(row);
+        let before = self.awaited(row);
         self.deadlines.remove(row, before);
         self.tree.set_deadline(row, deadline);
     }

@@ -1,8 +1,9 @@
-use Rattle.std.proofs.Common.{◌-◌, ◌<◌, Some, sym, subst, arith}
-use Rattle.cancel_tree.specs.Rows.{IsAdded, changed, with_deadline}
-use Rattle.scope_index.specs.CancelTables.{CancelTable, HasRow, AreKept}
-use Rattle.scope_index.proofs.CancelsKept.{kept_move}
+use Rattle.std.proofs.Common.{◌-◌, ◌≤◌, ◌<◌, Some, sym, subst, arith, ◌∙◌}
+use Rattle.cancel_tree.specs.Rows.{IsAdded}
+use Rattle.scope_index.specs.CancelTables.{CancelTable, HasRow}
+use Rattle.scope_index.proofs.CancelsKept.{kept_move, kept_over}
 use Rattle.scope_index.proofs.cancels.CancelIndex.await_deadline.Goals as goal
+use Rattle.scope_index.proofs.cancels.CancelIndex.await_deadline.Goals.{then-not-has_own_cancel+in_ok-set, else-not-has_own_cancel}
 
 pub invariant_of-self-2 : goal.invariant_of-self-2
 invariant_of-self-2 c =
@@ -11,6 +12,11 @@ invariant_of-self-2 c =
     let coming = subst (λ (t : CancelTable). t.moment < c.args.deadline) (sym c.self.view_is) c.requires.coming in
     let row = c.args.scope - inside.before in
     let added : IsAdded inside.tree row = (omega (arith, has.after), omega (arith, has.within)) in
-    subst (λ nodes. AreKept inside.before inside.moment nodes inside.accounts.items c.set.new.self) (sym c.set_deadline.ensures)
-    (subst (AreKept inside.before inside.moment (changed inside.tree row (with_deadline (Some c.args.deadline))) inside.accounts.items) (sym c.in_ok-set.ensures.set)
-    (kept_move inside.before inside.moment row c.args.deadline inside.tree inside.accounts.items inside.deadlines added coming c.self.invariant))
+    elim c.if-not-has_own_cancel.branch [
+      | then-not-has_own_cancel+in_ok-set w ↦
+        rw c.set_deadline.ensures (rw w.self-inside-is (rw w.in_ok-set.ensures.set
+        (kept_move inside.before inside.moment row c.args.deadline inside.tree inside.accounts.items inside.deadlines added (sym c.has_own_cancel.ensures ∙ w.if-not-has_own_cancel.true) coming c.self.invariant)))
+      | else-not-has_own_cancel w ↦
+        rw c.set_deadline.ensures (rw w.self-inside-is
+        (kept_over inside.before inside.moment row c.args.deadline inside.tree inside.accounts.items inside.deadlines added (sym c.has_own_cancel.ensures ∙ w.if-not-has_own_cancel.false) c.self.invariant))
+    ]
