@@ -326,7 +326,7 @@ BALKREYN_CALL int64_t balkreyn_binding(balkreyn_book *book, uint32_t actor, cons
 /* The moment: 0, and it is written. */
 BALKREYN_CALL int64_t balkreyn_moment(balkreyn_book *book, uint64_t *moment);
 
-/* The deadline that comes next, the earliest after the moment of those that count: 1, and it is written; or 0. */
+/* The deadline that comes next, of a scope that isn't joined, closed or cancelled: 1, and it is written; or 0. */
 BALKREYN_CALL int64_t balkreyn_next_deadline(balkreyn_book *book, uint64_t *moment);
 
 /* The n-th scope to be cancelled since the last retirement, from 0; or 0 where no more than n were. */

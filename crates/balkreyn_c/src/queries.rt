@@ -208,7 +208,7 @@ pub extern "C" fn balkreyn_moment(alloc: Global, book: &mut Book, at: &mut u64) 
     answer
 }
 
-/// The deadline that comes next, in milliseconds, if one does.
+/// The deadline that comes next, in milliseconds, if one does: of a scope that isn't joined, closed or cancelled.
 #[unsafe(no_mangle)]
 pub extern "C" fn balkreyn_next_deadline(alloc: Global, book: &mut Book, moment: &mut u64) -> i64
     ensures answer { NextDeadline book.old.place.held result moment.old moment.new }

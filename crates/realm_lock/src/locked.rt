@@ -352,7 +352,8 @@ impl<C: Catalog, N: RealmName> LockedRealm<C, N> {
         }
     }
 
-    /// The deadline that comes next, in milliseconds, if one does.
+    /// The deadline that comes next, in milliseconds, if one does: of a scope that isn't joined, closed or
+    /// cancelled.
     pub(crate) fn next_deadline(&self) -> Option<u64>
         ensures { MatchOption result (NoDeadlineComes (history_of self.now.steps)) (IsNextDeadline (history_of self.now.steps)) }
     {

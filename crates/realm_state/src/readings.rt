@@ -50,7 +50,8 @@ impl RealmState {
         self.index.cancels()
     }
 
-    /// The deadline that comes next, in milliseconds: the earliest after the moment of those that count.
+    /// The deadline that comes next, in milliseconds: the earliest after the moment, of the scopes that aren't
+    /// joined, closed or cancelled.
     pub fn next_deadline(&self) -> Option<u64>
         ensures { MatchOption result (NoDeadlineComes self.now.history) (IsNextDeadline self.now.history) }
     {

@@ -87,8 +87,8 @@ impl CancelIndex {
         self.tree.effective_deadline(scope - self.before)
     }
 
-    /// The deadline that comes next, in milliseconds: the earliest after the moment of those that count, of
-    /// scopes that aren't cancelled. It takes time by the open scopes that were cancelled with a scope around
+    /// The deadline that comes next, in milliseconds: the earliest after the moment, of the scopes that aren't
+    /// joined, closed or cancelled. It takes time by the open scopes that were cancelled with a scope around
     /// them and have an earlier one.
     pub fn next_deadline(&self) -> Option<u64>
         ensures { (L : Limits) (h : History) → Legal L h → AreCancelsOf h self.now → MatchOption result (NoDeadlineComes h) (IsNextDeadline h) }

@@ -1,5 +1,5 @@
 -- How long tasks run and scopes are open, by a clock.
-use Rattle.std.specs.Prelude.{ℕ, ◌-◌, ◌/◌, ◌%◌, ◌&&◌, nat_le, nat_lt, not, Bool, true, false, Option, None, Some, option_map, List, [], ◌++◌, slice_get, codes, if◌then◌else◌}
+use Rattle.std.specs.Prelude.{ℕ, ◌-◌, ◌/◌, ◌%◌, ◌&&◌, nat_le, nat_lt, not, is_none, Bool, true, false, Option, None, Some, option_map, List, [], ◌++◌, slice_get, codes, if◌then◌else◌}
 use Rattle.std.specs.Option.{option_and_then}
 use Rattle.std.specs.Fmt.{decimal}
 use Rattle.scope_rules.specs.declared.types.answers.Stage.{Stage}
@@ -75,9 +75,9 @@ late_by c joined deadline = option_and_then (λ now. option_and_then (λ d. if n
 abbrev pub scope_late : Clock → History → ScopeInfo → Option ℕ
 scope_late c h i = option_and_then (λ age. late_by c i.joined i.deadline) (scope_age c h i.scope)
 
--- in how long the deadline comes, if it is not past, and the scope is not joined
-abbrev pub due_in : Clock → Bool → Option ℕ → Option ℕ
-due_in c joined deadline = option_and_then (λ now. option_and_then (λ d. if not joined && nat_le now d then Some (d - now) else None) deadline) c.now
+-- in how long the deadline comes, if it is not past, and can do something: the scope isn't joined or cancelled
+abbrev pub due_in : Clock → ScopeInfo → Option ℕ
+due_in c i = option_and_then (λ now. option_and_then (λ d. if not i.joined && is_none i.cause && nat_le now d then Some (d - now) else None) i.deadline) c.now
 
 -- milliseconds, from a second on as seconds with tenths
 unfoldable pub duration_text : ℕ → List ℕ

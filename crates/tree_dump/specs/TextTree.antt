@@ -22,7 +22,7 @@ aged_scope i c due age late = scope_text i c due ++ aged_text age late
 
 -- the line of the scope of which there is this to say
 abbrev pub scope_line : Clock → History → ℕ → ScopeInfo → List ℕ
-scope_line c h depth i = line depth (aged_scope i (counts h i.scope) (due_in c i.joined i.deadline) (scope_age c h i.scope) (scope_late c h i))
+scope_line c h depth i = line depth (aged_scope i (counts h i.scope) (due_in c i) (scope_age c h i.scope) (scope_late c h i))
 
 -- how long task k waits or runs, and in which call it waits
 abbrev pub task_ages : Clock → History → ℕ → List ℕ

@@ -182,13 +182,16 @@ pub(crate) fn scope_late<R: Readings>(readings: &R, ages: &Ages<'_>, info: Scope
     }
 }
 
-/// In how long the deadline of the scope comes, in milliseconds, if it is not past, and the scope is not joined.
-pub(crate) fn due_in(ages: &Ages<'_>, joined: bool, deadline: Option<u64>) -> Option<u64>
-    ensures { result ≡ due_in (clock_of ages.now) joined deadline }
+/// In how long the deadline of the scope comes, in milliseconds, if it is not past, and can do something: the scope isn't
+/// joined or cancelled.
+pub(crate) fn due_in(ages: &Ages<'_>, info: ScopeInfo) -> Option<u64>
+    ensures { result ≡ due_in (clock_of ages.now) info }
 {
     let now = u64::from(ages.last?);
-    match deadline {
-        Some(deadline) if !joined && now <= deadline => Some(deadline - now),
+    match info.deadline {
+        Some(deadline) if !info.joined && info.cause.is_none() && now <= deadline => {
+            Some(deadline - now)
+        }
         _ => None,
     }
 }

@@ -49,8 +49,8 @@
 //!
 //! AGE is in milliseconds, as `9 ms`, or from a second on in seconds with tenths, as `3.2 s`. T is the last reading of a
 //! clock, in milliseconds. An age is T less the reading as the scope was opened, or as the task started, if it runs, or was
-//! forked, if it waits. A deadline of a scope that is not joined comes in as long as it is later than T, or else the scope is
-//! late by as long as it is past. Only `tree_with` and `tree_at` show ages, by such readings, and in which calls actors wait,
+//! forked, if it waits. A deadline of a scope that isn't joined or cancelled comes in as long as it is later than T; a scope
+//! that isn't joined is late by as long as its deadline is past. Only `tree_with` and `tree_at` show ages, by such readings, and in which calls actors wait,
 //! as their caller knows it: `join`, `close`, `sleep`, `receive`, `send`, `permit`, `next_done`, `stop` or
 //! `wait_rung`.
 //!

@@ -33,7 +33,7 @@ pub(crate) fn append_scope_line<R: Readings>(
     let shown = AgedScope {
         info,
         counts,
-        due: due_in(ages, info.joined, info.deadline),
+        due: due_in(ages, info),
         age: scope_age(readings, ages, info.scope),
         late: scope_late(readings, ages, info),
     };
