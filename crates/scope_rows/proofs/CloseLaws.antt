@@ -1,7 +1,7 @@
 -- The rows after the beginning of a close.
 use Rattle.std.proofs.Common.{ℕ, ◌&&◌, ◌+◌, ◌==◌, ◌||◌, ◌∙◌, ◌≡◌, ◌≢◌, ◌≤◌, Bool, None, Option, Some, ap, arith, false, inl, inr, not, refl, slice_get, subst, sym, true}
-use Rattle.scope_rows.specs.{Accepts, AreRowsOf, BeginClose, History, IsScopeRow, Legal, Limits, Opening, RowTable, ScopeRow, Words.before, Words.closing, Words.innermost, Words.violated, altered, close_begun, closing_row, covers}
-use Rattle.scope_rows.specs.{covers_another, followed, innermost_of, is_fork, is_innermost, is_open, is_this, marked, marked_within, option_map, place_of, violated_row, walk_length}
+use Rattle.scope_rows.specs.{Accepts, AreRowsOf, BeginClose, History, IsScopeRow, Legal, Limits, Opening, RowTable, ScopeRow, altered, before, close_begun, closing, closing_row, covers, covers_another, followed, innermost}
+use Rattle.scope_rows.specs.{innermost_of, is_fork, is_innermost, is_open, is_this, marked, marked_within, option_map, place_of, violated, violated_row, walk_length}
 use Rattle.scope_rows.proofs.Words.{HasUnclosed, begin_close_passed, closing_grows, covers_by_innermost, eq-eqb, innermost_same, innermost_unclosed, live_is_unclosed, ne_eqb, or_right, unclosed_innermost, violated_grows}
 use Rattle.scope_rows.proofs.{Altering.altered_length, Altering.altered_split, EndLaws.below_is, Frames.closed_same, Frames.joining_same, Frames.scope_index, Frames.scope_on, Frames.violated_same, Keeping.count_same}
 use Rattle.scope_rows.proofs.{Keeping.counts_kept, Keeping.tasks_kept, MarkLaws.AreBelow, MarkLaws.Marks, MarkLaws.covered_unclosed, MarkLaws.marks, MarkLaws.unclosed_covered, Marking.marked_length, Places.number_apart}

@@ -1,7 +1,7 @@
 -- What one event more makes of the counts of a scope, if it moves a task to another stage or forks one.
 use Rattle.std.proofs.Common.{ℕ, ◌&&◌, ◌+◌, ◌-◌, ◌==◌, ◌∙◌, ◌≡◌, ◌≢◌, Bool, Some, ap, arith, cond, false, refl, sym, true}
-use Rattle.scope_rows.specs.{Counts, Event, Finished, Fork, Forking, History, Legal, Limits, Never, Running, Stage, Waiting, Words.counts, Words.stage, Words.tasks, count_finish, count_fork, count_taken, finishes, followed}
-use Rattle.scope_rows.specs.{forking, is_at, is_fork, is_stage, is_task_of, rejects, starts}
+use Rattle.scope_rows.specs.{Counts, Event, Finished, Fork, Forking, History, Legal, Limits, Never, Running, Stage, Waiting, count_finish, count_fork, count_taken, counts, finishes, followed, forking, is_at, is_fork, is_stage}
+use Rattle.scope_rows.specs.{is_task_of, rejects, stage, starts, tasks}
 use Rattle.scope_rows.proofs.Words.{forking_stays, tally, tally_forks, tally_moves}
 use Rattle.scope_rows.proofs.Frames.{counts_by, counts_same, tallies_of}
 

@@ -1,7 +1,7 @@
 -- How what is kept of own deadlines goes on by one event.
 use Rattle.std.proofs.Common.{[], ℕ, ◌+◌, ◌∙◌, ◌∷◌, ◌≡◌, ◌≢◌, None, Option, Some, ap, arith, cond, false, length-append, refl, subst, sym}
-use Rattle.scope_rows.specs.{AreDeadlinesOf, DeadlineTable.DeadlineTable, Event, HasDeadline, History, Legal, Limits, Move, Open, Opening, Options, Origin, Policy, Words.opening, Words.scopes, deadline, deadline_in, followed}
-use Rattle.scope_rows.specs.{is_open, last_of, move_of, moves_deadlines, no_deadlines, option_and_then, option_map_or, option_or, place_of, with_deadline, with_open}
+use Rattle.scope_rows.specs.{AreDeadlinesOf, DeadlineTable.DeadlineTable, Event, HasDeadline, History, Legal, Limits, Move, Open, Opening, Options, Origin, Policy, deadline, deadline_in, followed, is_open, last_of, move_of}
+use Rattle.scope_rows.specs.{moves_deadlines, no_deadlines, opening, option_and_then, option_map_or, option_or, place_of, scopes, with_deadline, with_open}
 use Rattle.scope_rows.proofs.Words.{IsOpened, count_push, eq-eqb, last_of-push, moved_opened, ne_eqb, next_opening, opened_after, opening_other, opening_same}
 use Rattle.scope_rows.proofs.{Altering.altered_length, Keeping.count_same, Places.entry_there, Places.opened_numbered, Places.right_altered, Places.right_pushed}
 

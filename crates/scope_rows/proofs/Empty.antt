@@ -1,6 +1,6 @@
 -- No rows agree with a history of no events.
 use Rattle.std.proofs.Common.{[], ℕ, ◌∙◌, ◌≡◌, None, Some, ap, length, refl, slice_get, sym}
-use Rattle.scope_rows.specs.{AreRowsOf, Origin, RowTable, Words.innermost, latest}
+use Rattle.scope_rows.specs.{AreRowsOf, Origin, RowTable, innermost, latest}
 
 no_innermost : (b : Origin) (a : ℕ) → innermost (record { base = b; events = [] }) a ≡ None
 unfolding innermost latest

@@ -1,7 +1,7 @@
 -- The rows after the end of a close.
 use Rattle.std.proofs.Common.{ℕ, ◌||◌, ◌∙◌, ◌≡◌, ◌≢◌, Some, ap, refl, sym, true}
-use Rattle.scope_rows.specs.{Accepts, AreRowsOf, EndClose, History, IsScopeRow, Legal, Limits, Opening, RowTable, ScopeRow, Words.before, Words.closed, Words.innermost, altered, below_of, close_ended, closed_row, followed}
-use Rattle.scope_rows.specs.{is_fork, is_open, option_and_then, place_of}
+use Rattle.scope_rows.specs.{Accepts, AreRowsOf, EndClose, History, IsScopeRow, Legal, Limits, Opening, RowTable, ScopeRow, altered, before, below_of, close_ended, closed, closed_row, followed, innermost, is_fork, is_open}
+use Rattle.scope_rows.specs.{option_and_then, place_of}
 use Rattle.scope_rows.proofs.Words.{closed_grows, end_close_passed, eq-eqb, innermost_end_other, innermost_ended, ne_eqb, or_right}
 use Rattle.scope_rows.proofs.{Actors.actor_has, Altering.altered_length, Frames.closing_same, Frames.joining_same, Frames.scope_index, Frames.scope_on, Frames.violated_same, InnerMoves.main_moved, InnerMoves.tasks_length}
 use Rattle.scope_rows.proofs.{InnerMoves.tasks_moved, Keeping.count_same, Keeping.counts_kept, Places.AreRight, Places.ScopeRowAt, Places.right_altered, Places.scope_at, Places.scope_row_is}

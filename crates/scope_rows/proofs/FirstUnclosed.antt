@@ -1,6 +1,6 @@
 -- Which scope is the first of an actor's unclosed ones after another.
 use Rattle.std.proofs.Common.{ℕ, ◌&&◌, ◌+◌, ◌<◌, ◌==◌, ◌∙◌, ◌≡◌, ◌≤◌, None, Option, Some, ap, arith, cond, nat_lt, not, refl, subst, suc, zero}
-use Rattle.scope_rows.specs.{History, Opening, Words.closed, Words.opening, earliest, next_unclosed, opened_count, option_and_then, outermost, unclosed_after, unclosed_of}
+use Rattle.scope_rows.specs.{History, Opening, closed, earliest, next_unclosed, opened_count, opening, option_and_then, outermost, unclosed_after, unclosed_of}
 use Rattle.scope_rows.proofs.Words.{HasUnclosed, and_parts, and_then_some, earliest_found, earliest_same, eq-eqb, eqb-true, if_some, lt-ltb, ltb-true, not-true, opened_after, same_Some}
 
 -- the number of a scope, if the actor opened it and has not closed it

@@ -1,7 +1,7 @@
 -- The rows after a fork.
 use Rattle.std.proofs.Common.{[], ℕ, ◌++◌, ◌+◌, ◌==◌, ◌∙◌, ◌∷◌, ◌≡◌, Bool, None, Option, Some, ap, arith, cond, false, length, length-append, refl, sym, true}
-use Rattle.scope_rows.specs.{Accepts, AreRowsOf, Ending, Fork, Forking, History, IsScopeRow, IsTaskRow, Legal, Limits, Never, RowTable, ScopeRow, Steps.forked, Unavailable, Waiting, Words.finished, Words.innermost, Words.stage}
-use Rattle.scope_rows.specs.{Words.tasks, altered, count_fork, ending, followed, forked_count, forking, is_cancelled, is_fork, is_open, new_task_row, option_map_or, place_of, recount, state_of}
+use Rattle.scope_rows.specs.{Accepts, AreRowsOf, Ending, Fork, Forking, History, IsScopeRow, IsTaskRow, Legal, Limits, Never, RowTable, ScopeRow, Unavailable, Waiting, Words.finished, altered, count_fork, ending, followed, forked}
+use Rattle.scope_rows.specs.{forked_count, forking, innermost, is_cancelled, is_fork, is_open, new_task_row, option_map_or, place_of, recount, stage, state_of, tasks}
 use Rattle.scope_rows.proofs.Words.{count_push, eq-eqb, finished_grows, fork_passed, innermost_same, ne_eqb, next_forking, no_ending, or_from, stage_forked, state_is}
 use Rattle.scope_rows.proofs.{Altering.altered_length, CountMoves.fork_counted, CountMoves.fork_elsewhere, Frames.closed_same, Frames.closing_same, Frames.joining_same, Frames.scope_index, Frames.scope_on, Frames.task_kept}
 use Rattle.scope_rows.proofs.{Frames.violated_same, Keeping.count_same, Places.AreRight, Places.opened_has, Places.right_altered, Places.right_pushed, Unforked.next_unforked, Unforked.unforked_innermost}

@@ -1,7 +1,7 @@
 -- What one event more leaves of a row.
 use Rattle.std.proofs.Common.{ℕ, ◌||◌, ◌∙◌, ◌≡◌, Bool, None, Option, Some, ap, arith, cond, false, length, refl, true}
-use Rattle.scope_rows.specs.{Counts, Event, Finish, Finished, History, IsScopeRow, IsTaskRow, Legal, Limits, Never, Running, ScopeRow, Stage, State, TaskRow, Waiting, Words.closed, Words.closing, Words.counts, Words.innermost}
-use Rattle.scope_rows.specs.{Words.stage, Words.state, Words.violated, begins_closing, begins_for, ending_of, ends, finishes, followed, inner_of, joining, joins, option_or, rejects, stack, starts}
+use Rattle.scope_rows.specs.{Counts, Event, Finish, Finished, History, IsScopeRow, IsTaskRow, Legal, Limits, Never, Running, ScopeRow, Stage, State, TaskRow, Waiting, begins_closing, begins_for, closed, closing, counts, ending_of}
+use Rattle.scope_rows.specs.{ends, finishes, followed, inner_of, innermost, joining, joins, option_or, rejects, stack, stage, starts, state, violated}
 use Rattle.scope_rows.proofs.Words.{before_push, closed_grows, closing_grows, forking_stays, opening_stays, opening_within, option_or-none, parent_stays, stage_same, state_stays, tally, violated_grows}
 use Rattle.scope_rows.proofs.Joinings.{joining_grows}
 

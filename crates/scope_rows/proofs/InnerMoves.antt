@@ -1,6 +1,6 @@
 -- The rows of tasks, and main's innermost scope, after an event that moves the innermost scope of one actor.
 use Rattle.std.proofs.Common.{ℕ, ◌+◌, ◌==◌, ◌∙◌, ◌≡◌, ◌≢◌, Bool, None, Option, Some, ap, arith, cond, false, inl, inr, length, refl, slice_get, sym, true, unwrap_or}
-use Rattle.scope_rows.specs.{AreRowsOf, Event, HasActor, HasTask, History, IsTaskRow, Legal, Limits, RowTable, TaskRow, Words.innermost, altered, finishes, followed, inner_of, main_with, place_of, rejects, starts, tasks_with}
+use Rattle.scope_rows.specs.{AreRowsOf, Event, HasActor, HasTask, History, IsTaskRow, Legal, Limits, RowTable, TaskRow, altered, finishes, followed, inner_of, innermost, main_with, place_of, rejects, starts, tasks_with}
 use Rattle.scope_rows.specs.{with_inner}
 use Rattle.scope_rows.proofs.Words.{eq-eqb, eqb-true, innermost_unclosed, ne_eqb, scope_given}
 use Rattle.scope_rows.proofs.{Altering.altered_length, Frames.task_kept, Frames.task_moved, Places.AreRight, Places.right_altered}

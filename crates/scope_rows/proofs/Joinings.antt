@@ -1,6 +1,6 @@
 -- The place of a scope's join: what one event more makes of it, and that it says whether the scope is joined.
 use Rattle.std.proofs.Common.{[], ℕ, ◌++◌, ◌||◌, ◌∙◌, ◌∷◌, ◌≡◌, ◌≤◌, Bool, None, Option, Some, add-one, ap, arith, cond, false, is_some, length, length-append, refl, subst, suc, sym, true, zero}
-use Rattle.scope_rows.specs.{Event, History, Words.before, Words.joined, earliest, followed, joining, joining_at, joins, option_and_then, option_or}
+use Rattle.scope_rows.specs.{Event, History, Words.joined, before, earliest, followed, joining, joining_at, joins, option_and_then, option_or}
 use Rattle.scope_rows.proofs.Words.{before_all, earliest_same, entry_at, get_push, joined_grows, last_event, take_at}
 
 -- the place of a join stays, or is that of the event

@@ -1,7 +1,7 @@
 -- How rows go on if no scope is opened and no task forked.
 use Rattle.std.proofs.Common.{ℕ, ◌+◌, ◌∙◌, ◌≡◌, Bool, Option, Some, ap, arith, cond, count_by, false, refl, slice_get, sym}
-use Rattle.scope_rows.specs.{AreRowsOf, Bind, Binding, Cancel, Event, History, IsTaskRow, Legal, Limits, Move, RowTable, TaskRow, Tick, Unbind, Words.counts, Words.innermost, begins_closing, begins_for, ends, finishes, followed}
-use Rattle.scope_rows.specs.{is_fork, is_open, joins, rejects, starts}
+use Rattle.scope_rows.specs.{AreRowsOf, Bind, Binding, Cancel, Event, History, IsTaskRow, Legal, Limits, Move, RowTable, TaskRow, Tick, Unbind, begins_closing, begins_for, counts, ends, finishes, followed, innermost, is_fork}
+use Rattle.scope_rows.specs.{is_open, joins, rejects, starts}
 use Rattle.scope_rows.proofs.Words.{count_push, innermost_same, tally_stays}
 use Rattle.scope_rows.proofs.Frames.{counts_same, scope_index, task_kept}
 

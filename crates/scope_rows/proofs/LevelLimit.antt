@@ -1,7 +1,7 @@
 -- In a legal history no scope lies deeper than the limit of levels.
 use Rattle.std.proofs.Common.{[], ℕ, ◌+◌, ◌<◌, ◌∙◌, ◌≡◌, ◌≤◌, None, Option, Some, ap, arith, inl, inr, length, refl, subst, suc, sym, zero}
-use Rattle.scope_rows.specs.{Accepts, Event, History, LEVEL_LIMIT, Legal, Limits, Open, Opening, Origin, Words.before, Words.opening, Words.parent, around, earliest, followed, level, next_level, opening_of, option_and_then}
-use Rattle.scope_rows.specs.{option_map_or, row_check, surrounding}
+use Rattle.scope_rows.specs.{Accepts, Event, History, LEVEL_LIMIT, Legal, Limits, Open, Opening, Origin, around, before, earliest, followed, level, next_level, opening, opening_of, option_and_then, option_map_or, parent}
+use Rattle.scope_rows.specs.{row_check, surrounding}
 use Rattle.scope_rows.proofs.Words.{IsOpened, along, and_then_some, before_last, checks_at, legal_before, legal_push, level_by_parent, ltb-false, not_refused, opened_before, opening_place, opening_split, parent_smaller}
 use Rattle.scope_rows.proofs.Words.{parent_stays, surrounding_opened}
 

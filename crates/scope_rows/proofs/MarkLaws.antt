@@ -1,6 +1,6 @@
 -- The scopes that the walk marks are those that the beginning of a close covers.
 use Rattle.std.proofs.Common.{[], ℕ, ◌&&◌, ◌+◌, ◌<◌, ◌==◌, ◌||◌, ◌∙◌, ◌∷◌, ◌≡◌, ◌≢◌, ◌≤◌, ◌⊎◌, Bool, List, None, Option, Some, ap, arith, cond, false, inl, inr, nat_lt, not, refl, slice_get, subst, suc, sym, true, zero}
-use Rattle.scope_rows.specs.{History, Opening, ScopeRow, Words.closed, Words.opening, altered, below_of, closing_row, covers, have_one_opener, marked_within, option_and_then, option_map, place_of}
+use Rattle.scope_rows.specs.{History, Opening, ScopeRow, altered, below_of, closed, closing_row, covers, have_one_opener, marked_within, opening, option_and_then, option_map, place_of}
 use Rattle.scope_rows.proofs.Words.{HasUnclosed, and_parts, both_ways, cases_eq, eq-eqb, eqb-true, lt-ltb, ltb-true, ne_eqb, not-true, or_cases}
 use Rattle.scope_rows.proofs.{Altering.altered_other, Marking.marked_none, Places.number_at, Walks.IsGreatestBelow}
 

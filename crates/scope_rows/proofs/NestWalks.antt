@@ -1,6 +1,6 @@
 -- The walk down an actor's unclosed scopes, step by step.
 use Rattle.std.proofs.Common.{ℕ, ◌+◌, ◌<◌, ◌∙◌, ◌≡◌, ◌≤◌, ◌⊎◌, None, Option, Some, ap, arith, inl, inr, refl, subst, sym}
-use Rattle.scope_rows.specs.{AreRowsOf, History, LEVEL_LIMIT, Legal, Limits, RowTable, Words.before, Words.innermost, below_of, forked_in, level, next_unclosed, option_or, surrounding}
+use Rattle.scope_rows.specs.{AreRowsOf, History, LEVEL_LIMIT, Legal, Limits, RowTable, before, below_of, forked_in, innermost, level, next_unclosed, option_or, surrounding}
 use Rattle.scope_rows.proofs.Words.{HasUnclosed, cases_lt, innermost_unclosed, unclosed_innermost}
 use Rattle.scope_rows.proofs.{CloseLaws.are_below, EndLaws.below_is, FirstUnclosed.next_is, FirstUnclosed.next_none, LevelLimit.level_below, LevelLimit.level_counts, LevelLimit.level_within, Places.scope_at}
 

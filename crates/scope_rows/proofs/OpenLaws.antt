@@ -1,7 +1,7 @@
 -- The rows after an open.
 use Rattle.std.proofs.Common.{[], ℕ, ◌++◌, ◌+◌, ◌∙◌, ◌∷◌, ◌≡◌, ◌≢◌, Option, Some, ap, arith, length, length-append, refl, sym}
-use Rattle.scope_rows.specs.{Accepts, AreRowsOf, Finished, History, IsScopeRow, Legal, Limits, Never, Open, Opening, RowTable, Running, Waiting, Words.before, Words.innermost, Words.opening, Words.parent, Words.scopes, around}
-use Rattle.scope_rows.specs.{followed, innermost_of, is_fork, is_open, new_scope_row, opened, opened_count, option_and_then, stack, surrounding}
+use Rattle.scope_rows.specs.{Accepts, AreRowsOf, Finished, History, IsScopeRow, Legal, Limits, Never, Open, Opening, RowTable, Running, Waiting, around, before, followed, innermost, innermost_of, is_fork, is_open, new_scope_row}
+use Rattle.scope_rows.specs.{opened, opened_count, opening, option_and_then, parent, scopes, stack, surrounding}
 use Rattle.scope_rows.proofs.Words.{HasNoTask, before_last, count_push, forking_same, innermost_open_other, innermost_opened, next_opening, no_tally, open_passed}
 use Rattle.scope_rows.proofs.{Actors.actor_has, Frames.closed_same, Frames.closing_same, Frames.counts_by, Frames.joining_same, Frames.scope_index, Frames.violated_same, InnerMoves.main_moved, InnerMoves.tasks_length}
 use Rattle.scope_rows.proofs.{InnerMoves.tasks_moved, Keeping.count_same, Keeping.counts_kept, Places.AreRight, Places.right_pushed, Reading.innermost_says, Unopened.next_unopened, Unopened.unopened_unsaid}

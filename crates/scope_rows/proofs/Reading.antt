@@ -1,7 +1,7 @@
 -- What is read of the rows is what the history says.
 use Rattle.std.proofs.Common.{ℕ, ◌<◌, ◌==◌, ◌∙◌, ◌≡◌, ◌≢◌, ◌≤◌, Bool, Bor, List, MatchOption, None, Option, Some, ap, arith, cond, false, nat_lt, refl, slice_get, subst, sym, true}
-use Rattle.scope_rows.specs.{AreRowsOf, Forking, History, IsScopeRow, IsTaskRow, Legal, Limits, Opening, RowTable, ScopeRow, TaskRow, Words.innermost, Words.opening, forking, inner_of, innermost_of, option_and_then, option_map}
-use Rattle.scope_rows.specs.{place_of, row_of, scope_row, task_row}
+use Rattle.scope_rows.specs.{AreRowsOf, Forking, History, IsScopeRow, IsTaskRow, Legal, Limits, Opening, RowTable, ScopeRow, TaskRow, forking, inner_of, innermost, innermost_of, opening, option_and_then, option_map, place_of}
+use Rattle.scope_rows.specs.{row_of, scope_row, task_row}
 use Rattle.scope_rows.proofs.Words.{eq-eqb, eqb-true, ltb-true}
 use Rattle.scope_rows.proofs.{Places.number_at, Places.scope_at, Places.scope_row_is, Places.task_at, Places.task_row_is, Unforked.unforked_innermost}
 

@@ -1,8 +1,8 @@
 -- The rows after a reject, a start and an end of a task.
 use Rattle.std.proofs.Common.{ℕ, ◌==◌, ◌∙◌, ◌≡◌, Bool, None, Some, ap, cond, false, length, refl, subst, sym, true}
 use Rattle.scope_rows.specs.{Accepts, AreRowsOf, Counts, EndValue, Event, Finish, Finished, Forking, History, IsScopeRow, IsTaskRow, Legal, Limits, Never, Reject, RowTable, Running, ScopeRow, Stage, Start, Steps.finished, TaskRow}
-use Rattle.scope_rows.specs.{Unavailable, Waiting, Words.counts, Words.innermost, Words.stage, altered, begins_closing, begins_for, count_finish, count_taken, ended_row, ending_of, ends, followed, forking, is_cancelled, is_fork}
-use Rattle.scope_rows.specs.{is_open, is_running, is_waiting, joins, moved, place_of, recount, rejected, scope_of, stage_row, started, state_at_end, state_by_end, taken}
+use Rattle.scope_rows.specs.{Unavailable, Waiting, altered, begins_closing, begins_for, count_finish, count_taken, counts, ended_row, ending_of, ends, followed, forking, innermost, is_cancelled, is_fork, is_open, is_running}
+use Rattle.scope_rows.specs.{is_waiting, joins, moved, place_of, recount, rejected, scope_of, stage, stage_row, started, state_at_end, state_by_end, taken}
 use Rattle.scope_rows.proofs.Words.{eq-eqb, finish_passed, forked_opened, innermost_same, ne_eqb, reject_passed, running_forked, running_task, stage_finished, stage_rejected, stage_started, start_passed, state_ended, state_stays}
 use Rattle.scope_rows.proofs.Words.{waiting_forked}
 use Rattle.scope_rows.proofs.{Altering.altered_length, CountMoves.NamesAlone, CountMoves.counts_elsewhere, CountMoves.counts_finished, CountMoves.counts_taken, CountMoves.is_taken, Frames.closed_same, Frames.closing_same}

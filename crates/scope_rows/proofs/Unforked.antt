@@ -1,6 +1,6 @@
 -- Of a task that was never forked nothing is said.
 use Rattle.std.proofs.Common.{ℕ, ◌+◌, ◌∙◌, ◌≡◌, ◌≢◌, ◌⊎◌, Bool, None, ap, arith, false, inl, inr, refl, sym, true}
-use Rattle.scope_rows.specs.{History, Legal, Limits, Words.closed, Words.finished, Words.innermost, Words.tasks, forking}
+use Rattle.scope_rows.specs.{History, Legal, Limits, Words.finished, closed, forking, innermost, tasks}
 use Rattle.scope_rows.proofs.Words.{IsActor, IsForked, false_from_ne_true, finished_forked, forked_after, innermost_is_none, owners_act, running_forked}
 
 -- the next number was given to no task

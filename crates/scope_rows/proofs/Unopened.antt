@@ -1,7 +1,7 @@
 -- Of a scope that was never opened nothing is said.
 use Rattle.std.proofs.Common.{[], ℕ, ◌&&◌, ◌+◌, ◌==◌, ◌||◌, ◌∙◌, ◌≡◌, ◌≢◌, Bool, None, Option, Some, arith, false, inl, inr, nat_lt, not, refl, subst, sym, true}
-use Rattle.scope_rows.specs.{Accepts, BeginClose, Event, Forking, History, Legal, Limits, Opening, Origin, Words.closed, Words.closing, Words.joined, Words.opening, Words.scopes, Words.violated, begins_closing, begins_for, covers}
-use Rattle.scope_rows.specs.{covers_another, followed, forking, have_one_opener, joining, some_below}
+use Rattle.scope_rows.specs.{Accepts, BeginClose, Event, Forking, History, Legal, Limits, Opening, Origin, Words.joined, begins_closing, begins_for, closed, closing, covers, covers_another, followed, forking, have_one_opener}
+use Rattle.scope_rows.specs.{joining, opening, scopes, some_below, violated}
 use Rattle.scope_rows.proofs.Words.{IsOpened, along, and_parts, begin_close_passed, both_ways, closed_opened, closing_grows, eqb-true, false_from_ne_true, forked_opened, joined_opened, opened_after, opening_stays, or_cases}
 use Rattle.scope_rows.proofs.Words.{violated_grows}
 use Rattle.scope_rows.proofs.Joinings.{unjoined}

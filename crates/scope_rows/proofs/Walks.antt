@@ -1,7 +1,7 @@
 -- What the walk down from an actor's innermost scope meets: each unclosed scope of the actor, from the
 -- latest down.
 use Rattle.std.proofs.Common.{ℕ, ◌<◌, ◌≡◌, ◌≤◌, Option, Some, arith, false}
-use Rattle.scope_rows.specs.{History, Legal, Limits, Opening, Words.before, Words.closed, Words.innermost, Words.opening}
+use Rattle.scope_rows.specs.{History, Legal, Limits, Opening, before, closed, innermost, opening}
 use Rattle.scope_rows.proofs.Words.{HasUnclosed, innermost_unclosed, opened_after, opened_first, opening_later, opening_number, unclosed_around, unclosed_before, unclosed_innermost}
 
 -- o is the greatest unclosed scope of the actor below t, or none if there is none

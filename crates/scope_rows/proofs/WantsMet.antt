@@ -1,8 +1,8 @@
 -- Rows that agree with a history give what each call wants, for an event that was accepted.
 use Rattle.std.proofs.Common.{ℕ, ◌&&◌, ◌+◌, ◌∙◌, ◌≡◌, ◌≤◌, Bool, IfSome, None, Option, Some, ap, arith, cond, count_by, false, refl, subst, suc, sym, true, zero}
 use Rattle.scope_rows.specs.{Accepts, AreLinked, AreRowsOf, BeginClose, CanBeTaken, CanBeginClose, CanEndClose, CanFinish, CanFork, CanOpen, EndClose, Event, Finish, Finished, Fork, Forking, HasCountRoom, HasScope}
-use Rattle.scope_rows.specs.{HasScopeNumbers, HasSmallNumbers, HasTaskNumbers, History, Legal, Limits, Never, Open, Reject, RowTable, Running, ScopeRow, Stage, Start, TASK_LIMIT, Waiting, Words.before, Words.counts}
-use Rattle.scope_rows.specs.{Words.innermost, Words.stage, counts_of, forked_count, forking, innermost_of, is_at, is_fork, is_stage, no_counts, option_map_or, range_with_len, scope_of, task_numbers}
+use Rattle.scope_rows.specs.{HasScopeNumbers, HasSmallNumbers, HasTaskNumbers, History, Legal, Limits, Never, Open, Reject, RowTable, Running, ScopeRow, Stage, Start, TASK_LIMIT, Waiting, before, counts, counts_of, forked_count}
+use Rattle.scope_rows.specs.{forking, innermost, innermost_of, is_at, is_fork, is_stage, no_counts, option_map_or, range_with_len, scope_of, stage, task_numbers}
 use Rattle.scope_rows.proofs.Words.{along, any_counted, begin_close_passed, count_by-cons, count_push, end_close_passed, eq-eqb, finish_passed, fork_number, fork_passed, forked_after, forked_opened, innermost_unclosed, ltb-true}
 use Rattle.scope_rows.proofs.Words.{open_number, open_passed, opened_after, opening_number, range_any, reject_passed, running_forked, start_passed, tally, waiting_forked}
 use Rattle.scope_rows.proofs.{Actors.actor_has, CountMoves.unit_is, Frames.tallies_of, Places.forked_has, Places.opened_has, Places.scope_of_is, Places.scope_row_is, Places.scope_there, Reading.innermost_says, TaskLaws.running_is}

@@ -1,6 +1,6 @@
 -- What is written into the rows is what a step makes of them.
 use Rattle.std.proofs.Common.{[], ℕ, ◌++◌, ◌+◌, ◌-◌, ◌==◌, ◌∙◌, ◌∷◌, ◌≡◌, Bool, Option, Some, ap, cond, false, get_or, length, subst, sym, unwrap_or}
-use Rattle.scope_rows.specs.{Counts, HasScope, HasTask, Opening, RowTable, ScopeRow, Steps.forked, TaskRow, altered, below_of, count_fork, innermost_of, moved, new_scope_row, new_task_row, opened, option_and_then, option_map_or}
+use Rattle.scope_rows.specs.{Counts, HasScope, HasTask, Opening, RowTable, ScopeRow, TaskRow, altered, below_of, count_fork, forked, innermost_of, moved, new_scope_row, new_task_row, opened, option_and_then, option_map_or}
 use Rattle.scope_rows.specs.{place_of, recount, scope_of, with_inner, with_innermost, with_scope}
 use Rattle.scope_rows.proofs.{Altering.altered_read, Places.number_read}
 

@@ -5,7 +5,7 @@
 //! are levels, and a walk over all of them takes constant time.
 
 ghost use Rattle.std.specs.Prelude.{◌≡◌};
-ghost use Rattle.scope_rows.specs.{AreRowsOf, History, Legal, Limits, Words.inner, below_of, next_unclosed, outermost};
+ghost use Rattle.scope_rows.specs.{AreRowsOf, History, Legal, Limits, below_of, inner, next_unclosed, outermost};
 
 use crate::rows::Rows;
 use scope_rules::types::capacity::LEVEL_LIMIT;

@@ -1,8 +1,8 @@
 //! The rows, and what queries read of them.
 
 ghost use Rattle.std.specs.Prelude.{[], ◌+◌, ◌≡◌, ◌≤◌, MatchOption, None, OnErr, OnOk, Some, length, option_map, slice_get};
-ghost use Rattle.scope_rows.specs.{AreRowsOf, HasActor, HasScopeNumbers, HasTaskNumbers, History, IsScopeRow, IsTaskRow, Legal, Limits, Origin, RowTable, Words.innermost, Words.opening, Words.scopes, Words.tasks, empty_table};
-ghost use Rattle.scope_rows.specs.{forked_count, forking, inner_of, innermost_of, opened_count, restarted, scope_row, task_row, with_innermost};
+ghost use Rattle.scope_rows.specs.{AreRowsOf, HasActor, HasScopeNumbers, HasTaskNumbers, History, IsScopeRow, IsTaskRow, Legal, Limits, Origin, RowTable, empty_table, forked_count, forking, inner_of, innermost, innermost_of};
+ghost use Rattle.scope_rows.specs.{opened_count, opening, restarted, scope_row, scopes, task_row, tasks, with_innermost};
 
 use crate::numbered::Numbered;
 use crate::records::{ScopeRow, TaskRow};

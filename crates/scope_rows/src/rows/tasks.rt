@@ -1,8 +1,8 @@
 //! What the events of tasks make of the rows.
 
 ghost use Rattle.std.specs.Prelude.{ℕ, ◌≡◌, ◌≤◌, length};
-ghost use Rattle.scope_rows.specs.{Accepts, AreRowsOf, CanBeTaken, CanFinish, CanFork, Finish, Fork, HasCountRoom, History, Label, Legal, Limits, Reject, Start, Steps.finished, Steps.forked, count_finish, count_fork, count_taken};
-ghost use Rattle.scope_rows.specs.{followed, is_cancelled, new_task_row, rejected, scope_of, started, state_at_end, taken};
+ghost use Rattle.scope_rows.specs.{Accepts, AreRowsOf, CanBeTaken, CanFinish, CanFork, Finish, Fork, HasCountRoom, History, Label, Legal, Limits, Reject, Start, Steps.finished, count_finish, count_fork, count_taken, followed};
+ghost use Rattle.scope_rows.specs.{forked, is_cancelled, new_task_row, rejected, scope_of, started, state_at_end, taken};
 
 use crate::records::TaskRow;
 use crate::rows::Rows;

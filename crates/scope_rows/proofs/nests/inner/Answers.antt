@@ -1,5 +1,5 @@
 -- The row has the owner, whose next scope is the one inside.
-use Rattle.scope_rows.specs.{Opening, Words.inner, next_unclosed, option_and_then}
+use Rattle.scope_rows.specs.{Opening, inner, next_unclosed, option_and_then}
 use Rattle.scope_rows.proofs.Words.{◌∙◌, ap, sym}
 use Rattle.scope_rows.proofs.nests.inner.Goals as goal
 
