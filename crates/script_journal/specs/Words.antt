@@ -5,8 +5,8 @@ pub use Rattle.scope_rules.specs.History.{History, before, followed, forked_coun
 pub use Rattle.scope_rules.specs.Scopes.{around, begins_closing, closing_at, ends, forked_in, have_one_opener, joins, unclosed_of}
 pub use Rattle.scope_rules.specs.declared.types.events.Event.TheVariants.{BeginClose, Bind, Cancel, EndClose, Finish, Fork, Join, Move, Open, Reject, Start, Tick, Unbind}
 pub use Rattle.script_words.specs.Spelling.{IsEnd, IsMoment, IsPolicy, IsSmall, IsValue, option_words, policy_word, value_word}
-pub use Rattle.std.specs.{Fmt.HasWritten, Fmt.IsPlainFormatter, Fmt.decimal, Fmt.digits, List.cons_option, List.filter_map, List.flat_map, List.join_with_byte, List.list_any, List.range_with_len, Option.option_and_then}
-pub use Rattle.std.specs.{Option.option_map_or, Option.option_or, Prelude.Some}
+pub use Rattle.std.specs.{Fmt.HasWritten, Fmt.IsPlainFormatter, Fmt.decimal, List.cons_option, List.filter_map, List.flat_map, List.join_with_byte, List.list_any, List.range_with_len, Option.option_and_then, Option.option_map_or}
+pub use Rattle.std.specs.{Option.option_or, Prelude.Some}
 pub use Rattle.scope_checks.specs.Ruled.{IsRuled}
 pub use Rattle.scope_log.specs.Dues.{without_due, without_dues}
 pub use Rattle.scope_rules.specs.{Bindings.first_stack, Bindings.opened_above, Bindings.stacked, Cancels.direct_kind, Cancels.kind_by, Cancels.move_of, Cancels.own_cancel, Chains.shifted, Completions.completes}
@@ -27,6 +27,7 @@ unfoldable pub use Rattle.scope_rules.specs.Cancels.{cancelled_at, cancelled_bef
 unfoldable pub use Rattle.scope_rules.specs.Checks.{checks, in_closing, is_innermost, known_actor, known_scope, known_task, owns, then_check}
 unfoldable pub use Rattle.scope_rules.specs.Scopes.{closed, closing, covers, innermost, joined, level, next_level, outer, parent, surrounding}
 unfoldable pub use Rattle.scope_rules.specs.Tasks.{finished, ready, rejected, settled, stage, stage_of, started}
+unfoldable pub use Rattle.std.specs.Fmt.{digits}
 unfoldable pub use Rattle.scope_rules.specs.{Bindings.bound_as_opened, Bindings.holds_last, Bindings.stack, Chains.chain_by, Completions.completions, Completions.is_task_of, History.forking, History.moment, History.opening}
 unfoldable pub use Rattle.scope_rules.specs.{Joining.fires, Joining.meets, Joining.total_of, Legal.Legal, Load.load, Outcomes.outcome, Replies.base_of, Replies.outcome_check, Search.earliest, Search.last_of, Search.latest}
 unfoldable pub use Rattle.scope_rules.specs.{Table.retire_check, Table.row_check}
