@@ -18,7 +18,7 @@ pub use Rattle.scope_checks.proofs.Checked.{scope_passes}
 pub use Rattle.scope_rules.proofs.{Accepted.checks_at, Nesting.IsOpened, NewScopes.scope_passed, OneEventMore.joined_grows, OneEventMore.opening_same}
 pub use Rattle.scope_script.proofs.Answered.{accepted, joined, retires}
 pub use base.{Fml.Fml, Fml.feq, Fml.flft, Fml.fsep, Fml.ftrue, Fraction.full_share, Shift.Keyless}
-pub use contract.{BorrowLft.◌⊑◌, Monad.Fun, Monad.fact, Monad.fact_i, Running.tables, Running.tables_of}
+pub use contract.{BorrowLft.◌⊑◌, Monad.Fun, Monad.fact, Monad.fact_i, Running.tables}
 pub use denote.{Builtin.u64, Exit.no, Exit.yes, Memory.lone, Param.Send.AllSend, Param.Send.IsSend, Param.Send.owning_send, Param.Send.sendable, Param.Send.struct_send, Param.bounded, Plain.uint_Tells, Plain.uint_vals}
 pub use denote.{RattleType.RattleType, RattleType.Valss, RattleType.owns, Ref.mut_Tells, Ref.mut_vals, Signature.Slot, Signature.plain, Signature.type_at, Signature.types_at, Struct.Owning.fields, Struct.Owning.shape}
 pub use denote.{Struct.Owning.to, Struct.Struct.exits_of, Struct.Struct.within, Struct.Tuple.Tuple, Triple.Call.calls_at, Triple.Call.calls_at_last, Triple.Clauses.Clauses, Triple.Clauses.Ended, Triple.Spec.triple_of}
@@ -26,7 +26,9 @@ pub use denote.{Triple.Statement.Contract, Triple.Statement.Triple, Triple.Table
 pub use lib.Dec.{T, lit<}
 pub use mathlib.Core.{List.List, List.[], Path.refl, Path.subst}
 pub use mir.MapTy.{inst_fn}
-pub use prog.{Memory.Memory, Routine.Routine, Wp.Tables, Wp.WpFn}
+pub use prog.{Memory.Memory, Routine.Routine, Wp.Tables}
 pub use seplogic.Ra.Ura.{Ura}
 pub use sound.WpLaws.{WpFn-mono, fm_of}
 pub use types.{Logic.Logic, Logic.sem, Part.agg, Part.sub, Part.whole}
+unfoldable pub use contract.Running.{tables_of}
+unfoldable pub use prog.Wp.{WpFn}
