@@ -1,17 +1,6 @@
 -- What a command did to a book.
-use Rattle.std.proofs.Common.{◌≡◌, ℕ, ℤ, pos, Option, Some, Result, sym, subst, ap, ◌∙◌}
-use Rattle.scope_rules.specs.declared.types.events.Event.{Event}
-use Rattle.scope_rules.specs.declared.types.refusals.Refusal.{Refusal}
-use Rattle.scope_rules.specs.Replies.{Realm}
-use Rattle.scope_checks.specs.declared.event_replies.EventReply.{EventReply}
-use Rattle.scope_rules.specs.Origin.{Origin}
-use Rattle.scope_checks.specs.Entering.{Retires, Tells}
-use Rattle.balkreyn_c.specs.declared.timed.TimedRealm.{TimedRealm}
-use Rattle.balkreyn_c.specs.Numbers.{number_of, told_number}
-use Rattle.balkreyn_c.specs.Acting.{Acts}
-use Rattle.balkreyn_c.specs.Joining.{LetsGo}
-use Rattle.balkreyn_c.specs.Timed.{times_left, with_realm}
-use Rattle.balkreyn_c.specs.Timing.{IsNoted, NotesTime}
+use Rattle.std.proofs.Common.{ℕ, ℤ, ◌∙◌, ◌≡◌, Option, Result, Some, ap, pos, subst, sym}
+use Rattle.balkreyn_c.specs.{Acts, Event, EventReply, IsNoted, LetsGo, NotesTime, Origin, Realm, Refusal, Retires, Tells, TimedRealm, number_of, times_left, told_number, with_realm}
 
 -- the realm was told the event
 pub tried : (held new : Option TimedRealm) (old : TimedRealm) (realm : Realm) (e : Event) (reply : Result EventReply Refusal) (answer : ℤ) → held ≡ Some old → Tells old.realm e reply realm → answer ≡ number_of told_number reply → new ≡ Some (with_realm old realm) → Acts held (Some e) answer new

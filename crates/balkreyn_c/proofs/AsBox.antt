@@ -1,13 +1,9 @@
 -- The place and the parts own what a box at the same types owns.
-use mir.Syntax.{impl, tnil, dnil}
-use mathlib.Core.List.{[]}
-use mathlib.Core.Path.{◌≡◌, refl}
-use denote.Signature.{Slot, plain}
-use Rattle.std.proofs.Common.{Option, None, Some}
-use Rattle.std.specs.Prelude.{IsSome}
 use Rattle.std.proofs.BoxSteps.Form.{Bx}
+use Rattle.balkreyn_c.specs.{IsSome, dict, ghosts}
+use Rattle.balkreyn_c.proofs.Lemmas.{[], None, Option, Slot, Some, dnil, impl, plain, refl, tnil}
+use mathlib.Core.Path.{◌≡◌}
 use Rattle.std_heap.specs.contracts.Global as Heap
-use Rattle.std_heap.specs.contracts.GlobalAllocator.TheImpl.{ghosts, dict}
 use Rattle.std_heap.proofs.Global.TheLaws as heap
 use Rattle.balkreyn_c.specs.contracts.timed.TimedRealm as State
 use Rattle.balkreyn_c.proofs.timed.TimedRealm.TheLaws as kept

@@ -1,40 +1,17 @@
 -- From what a command of a kept realm answers to its reply.
-use Rattle.std.proofs.Common.{◌≡◌, ℕ, ℤ, pos, List, [], length, ◌&&◌, Bool, true, Option, Some, Result, Ok, Err, refl, ap, sym, ◌∙◌, subst, ◌⊎◌, inl, inr}
-use Rattle.std.specs.Prelude.{is_ok, if◌then◌else◌}
-use Rattle.scope_rules.specs.declared.types.events.Event.{Event}
-use Rattle.scope_rules.specs.declared.types.events.Event.TheVariants as event
-use Rattle.scope_rules.specs.declared.types.outcomes.Outcome.{Outcome}
-use Rattle.scope_rules.specs.declared.types.refusals.Refusal.{Refusal}
-use Rattle.scope_rules.specs.declared.types.refusals.Refusal.TheVariants as why
-use Rattle.scope_rules.specs.declared.types.refusals.Refusal.TheVariants.{Memory, BadWord as Bad}
-use Rattle.scope_rules.specs.Checks.{Checked}
-use Rattle.scope_rules.specs.History.{followed}
-use Rattle.scope_rules.specs.Origin.{Origin}
-use Rattle.scope_rules.specs.Outcomes.{outcome}
-use Rattle.scope_rules.specs.Replies.{Realm, Answers, AnswersOrMemory, AnswersValue, with_event, after, outcome_check}
-use Rattle.scope_rules.specs.Table.{check_of}
-use Rattle.scope_checks.specs.Entering.{Retires, Tells}
-use Rattle.scope_index.specs.declared.bare.BareOutcome.{BareOutcome}
-use Rattle.script_words.specs.declared.commands.Command.{Command}
-use Rattle.script_words.specs.declared.commands.Command.TheVariants.{Do, Retire, Ask}
-use Rattle.script_words.specs.declared.commands.Line.TheVariants.{Command as command, BadWord, Silent}
-use Rattle.script_words.specs.declared.commands.Query.{Query}
-use Rattle.script_words.specs.Lines.{line_said}
-use Rattle.script_words.specs.declared.reply.Reply.{Reply}
-use Rattle.script_words.specs.declared.reply.Reply.TheVariants as reply
-use Rattle.scope_script.specs.Replying.{refused_or, passed_reply, answer_to, reply_to, realm_after, Performs, PerformsOrStops}
-use Rattle.scope_script.proofs.Answered.{joined, retires}
-use Rattle.scope_script.specs.Sessions.{line_reply, realm_after_line}
-use Rattle.balkreyn_c.specs.Asking.{text_in}
-use Rattle.balkreyn_c.specs.declared.line.Performed.{Performed}
-use Rattle.balkreyn_c.specs.declared.line.Performed.TheVariants as performed
-use Rattle.balkreyn_c.specs.declared.timed.TimedRealm.{TimedRealm}
-use Rattle.balkreyn_c.specs.Doors.{DidPerform, DoesLine, Lines, Stopped, not_done}
-use Rattle.balkreyn_c.specs.Joining.{AnswersBare}
-use Rattle.balkreyn_c.specs.Numbers.{untold, refused as refused_number}
-use Rattle.balkreyn_c.specs.Texts.{WritesReply, reply_line}
-use Rattle.balkreyn_c.specs.Timed.{times_left, with_realm}
+use Rattle.std.proofs.Common.{[], ℕ, ℤ, ◌&&◌, ◌∙◌, ◌≡◌, ◌⊎◌, Bool, Err, List, Ok, Option, Result, Some, ap, if◌then◌else◌, inl, inr, is_ok, length, pos, refl, subst, sym, true}
+use Rattle.balkreyn_c.specs.{Answers, AnswersBare, AnswersOrMemory, AnswersValue, Ask, BadWord, BareOutcome, Checked, Command, DidPerform, Do, DoesLine, Event, Lines, Memory, Origin, Outcome, Performed, PerformsOrStops, Query}
+use Rattle.balkreyn_c.specs.{Realm, Refusal, Reply, Retire, Retires, Silent, Stopped, Tells, TimedRealm, Words.Performs, WritesReply, after, answer_to, check_of, followed, line_reply, line_said, not_done, outcome, outcome_check}
+use Rattle.balkreyn_c.specs.{passed_reply, realm_after, realm_after_line, refused_or, reply_line, reply_to, text_in, times_left, untold, with_event, with_realm}
+use Rattle.balkreyn_c.proofs.Lemmas.{joined, retires}
 use Rattle.balkreyn_c.proofs.Acted.{left_realm, left_times}
+use Rattle.scope_rules.specs.declared.types.events.Event.TheVariants as event
+use Rattle.scope_rules.specs.declared.types.refusals.Refusal.TheVariants as why
+use Rattle.scope_rules.specs.declared.types.refusals.Refusal.TheVariants.{BadWord as Bad}
+use Rattle.script_words.specs.declared.commands.Line.TheVariants.{Command as command}
+use Rattle.script_words.specs.declared.reply.Reply.TheVariants as reply
+use Rattle.balkreyn_c.specs.declared.line.Performed.TheVariants as performed
+use Rattle.balkreyn_c.specs.Numbers.{refused as refused_number}
 
 -- a refusal is want of memory, or it is a reply
 abbrev OtherThanMemory : Refusal → Type 0

@@ -1,27 +1,8 @@
 -- What a join that was tried answers and leaves.
-use Rattle.std.proofs.Common.{◌≡◌, ℕ, true, Option, Some, option_map, Ok, Err, refl, sym, ap, ◌∙◌, inl, inr}
-use Rattle.std.proofs.lemmas.Bool.{or_right, eq-eqb}
-use Rattle.scope_rules.specs.declared.types.capacity.Limits.{Limits}
-use Rattle.scope_rules.specs.declared.types.events.Event.TheVariants.{Join}
-use Rattle.scope_rules.specs.declared.types.outcomes.Outcome.{Outcome}
-use Rattle.scope_rules.specs.declared.types.refusals.Refusal.{Refusal}
-use Rattle.scope_rules.specs.History.{History, followed}
-use Rattle.scope_rules.specs.Scopes.{joins, joined}
-use Rattle.scope_rules.specs.Outcomes.{outcome}
-use Rattle.scope_rules.specs.Checks.{Checked, checks, then_check}
-use Rattle.scope_rules.specs.Table.{check_of, row_check}
-use Rattle.scope_rules.specs.Replies.{Realm, with_event, after, outcome_check}
-use Rattle.scope_rules.proofs.Accepted.{checks_at}
-use Rattle.scope_rules.proofs.Nesting.{IsOpened}
-use Rattle.scope_rules.proofs.NewScopes.{scope_passed}
-use Rattle.scope_rules.proofs.OneEventMore.{joined_grows, opening_same}
-use Rattle.scope_checks.proofs.Checked.{scope_passes}
-use Rattle.scope_checks.specs.declared.event_replies.EventReply.{EventReply}
-use Rattle.scope_checks.specs.Entering.{Tells}
-use Rattle.scope_checks.specs.EventReplies.{after_telling}
-use Rattle.scope_index.specs.declared.bare.BareOutcome.{BareOutcome}
-use Rattle.scope_index.specs.Bare.{bare_of}
-use Rattle.balkreyn_c.specs.Joining.{AnswersBare}
+use Rattle.std.proofs.Common.{ℕ, ◌∙◌, ◌≡◌, Err, Ok, Option, Some, ap, inl, inr, option_map, refl, sym, true}
+use Rattle.balkreyn_c.specs.{AnswersBare, BareOutcome, Checked, EventReply, History, Join, Limits, Outcome, Realm, Refusal, Tells, after, after_telling, bare_of, check_of, checks, followed, joined, joins, outcome, outcome_check}
+use Rattle.balkreyn_c.specs.{row_check, then_check, with_event}
+use Rattle.balkreyn_c.proofs.Lemmas.{IsOpened, checks_at, eq-eqb, joined_grows, opening_same, or_right, scope_passed, scope_passes}
 
 joins_opened : (L : Limits) (h : History) (a s : ℕ) → check_of L h (Join a s) ≡ Ok tt → IsOpened h s
 unfolding row_check

@@ -7,3 +7,4 @@ pub mod Repeats
 pub mod Joins
 pub mod Lines
 pub mod Doors
+mod Lemmas

@@ -1,13 +1,6 @@
 -- What goes out as the line of an outcome.
-use Rattle.std.proofs.Common.{◌≡◌, ℕ, ℤ, List, Option, Ok, Err, refl}
-use Rattle.scope_rules.specs.declared.types.outcomes.Outcome.{Outcome}
-use Rattle.scope_rules.specs.declared.types.refusals.Refusal.TheVariants.{Memory}
-use Rattle.scope_rules.specs.Checks.{Checked}
-use Rattle.scope_rules.specs.History.{History}
-use Rattle.scope_rules.specs.Outcomes.{outcome}
-use Rattle.scope_rules.specs.Replies.{AnswersValue, outcome_check}
-use Rattle.balkreyn_c.specs.Numbers.{refused}
-use Rattle.balkreyn_c.specs.Texts.{TellsLine, Writes, outcome_line}
+use Rattle.std.proofs.Common.{ℕ, ℤ, ◌≡◌, Err, List, Ok, Option, refl}
+use Rattle.balkreyn_c.specs.{AnswersValue, Checked, History, Memory, Outcome, TellsLine, Writes, outcome, outcome_check, outcome_line, refused}
 
 -- if there was a value, there might have been no memory
 memory_instead : {A : Type 0} (check : Checked) (value : Option A) (x : A) → AnswersValue check value (Ok x) → AnswersValue check value (Err Memory)

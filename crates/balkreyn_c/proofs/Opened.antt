@@ -1,8 +1,6 @@
 -- What an open did to a book.
-use Rattle.std.proofs.Common.{◌≡◌, ℕ, pos, Option, None, Some, is_some, refl, ◌∙◌, inl}
-use Rattle.balkreyn_c.specs.declared.timed.TimedRealm.{TimedRealm}
-use Rattle.balkreyn_c.specs.Books.{IsFresh, OpensBook}
-use Rattle.balkreyn_c.specs.Resting.{resting}
+use Rattle.std.proofs.Common.{ℕ, ◌∙◌, ◌≡◌, None, Option, Some, inl, is_some, pos, refl}
+use Rattle.balkreyn_c.specs.{IsFresh, OpensBook, TimedRealm, resting}
 
 -- a book whose word is 0 holds none
 pub holds_none : (held : Option TimedRealm) (word : ℕ) → word ≡ resting (is_some held) → word ≡ 0 → held ≡ None

@@ -1,13 +1,8 @@
 -- What a batch did to a realm, and to a book.
-use Rattle.std.proofs.Common.{below_more, Bool, true, false, IsTrue, ◌↔◌, negsuc, ◌≡◌, ◌≢◌, ℕ, zero, suc, ◌+◌, ◌<◌, ◌≤◌, ℤ, pos, ◌<ℤ◌, ◌≤ℤ◌, List, length, drop, set, get_or, refl, sym, subst, ap, ◌∙◌, inl, inr, arith, add-one, Option, Some}
-use Rattle.std.proofs.lemmas.Int.{ints}
-use Rattle.std.proofs.lemmas.List.{length-set, get_or-set_same, get_or-set_other, drop-set-lt, drop-drop}
-use Rattle.scope_rules.specs.declared.types.events.Event.{Event}
-use Rattle.scope_rules.specs.Replies.{Realm}
-use Rattle.balkreyn_c.specs.declared.timed.TimedRealm.{TimedRealm}
-use Rattle.balkreyn_c.specs.Acting.{Performs}
-use Rattle.balkreyn_c.specs.Batches.{ActsMany, Batched, Repeats, TriesAt, answer_at}
-use Rattle.balkreyn_c.specs.Timed.{with_realm}
+use Rattle.std.proofs.Common.{ℕ, ℤ, ◌+◌, ◌<ℤ◌, ◌<◌, ◌↔◌, ◌∙◌, ◌≡◌, ◌≢◌, ◌≤ℤ◌, ◌≤◌, Bool, IsTrue, List, Option, Some, add-one, ap, arith, below_more, drop, false, get_or, inl, inr, length, negsuc, pos, refl, set, subst, suc, sym}
+use Rattle.std.proofs.Common.{true, zero}
+use Rattle.balkreyn_c.specs.{Acting.Performs, ActsMany, Batched, Event, Realm, Repeats, TimedRealm, TriesAt, answer_at, with_realm}
+use Rattle.balkreyn_c.proofs.Lemmas.{drop-drop, drop-set-lt, get_or-set_other, get_or-set_same, ints, length-set}
 
 -- a write behind the first n answers leaves what they say
 repeats_kept : (old : Realm) (e : Event) (xs : List ℤ) (n i : ℕ) (v : ℤ) (new : Realm) → n ≤ i → Repeats old e xs n new → Repeats old e (set xs i v) n new

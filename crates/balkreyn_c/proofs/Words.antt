@@ -1,12 +1,7 @@
 -- A step of the machine on a word that is owned.
-use Rattle.std.proofs.Common.{ℕ, List, [], ◌∷◌}
-use seplogic.Ra.Ura.{Ura}
-use base.Logic.{SProp, ent, ex, ex_i, upd_i}
-use base.Fml.{Fml}
-use types.Logic.{Logic, sem}
-use types.Kit.{‵, ◌$◌, ◌∵◌, !, qed, by, show, frame, each, assume, suffices}
-use denote.RawPtr.{block_ptr}
-use Rattle.std.specs.Sync.RawAtomic.{Shift, rests, word, along, found, back, if_none, asks, always}
+use Rattle.std.proofs.Common.{[], ℕ, ◌∷◌, List}
+use Rattle.balkreyn_c.specs.{Shift, along, always, asks, back, found, if_none, rests, word}
+use Rattle.balkreyn_c.proofs.Lemmas.{ !, ‵, ◌$◌, ◌∵◌, Fml, Logic, SProp, Ura, assume, block_ptr, by, each, ent, ex, ex_i, frame, qed, sem, show, suffices, upd_i}
 
 module _ {M : Type 1} {𝓤 : Ura M} (𝓛 : Logic 𝓤) where
   pub owned_asks : (b o n : ℕ) (f : ℕ → ℕ) (out : ℕ → Fml) → ent 𝓤 (sem 𝓛 (word b o (f n))) (sem 𝓛 (out n)) → ent 𝓤 (sem 𝓛 (word b o n)) (asks 𝓛 (block_ptr b o) f always out)

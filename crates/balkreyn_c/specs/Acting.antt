@@ -1,13 +1,7 @@
 -- What a command does to the realm of a book.
-use Rattle.std.specs.Prelude.{◌≡◌, ℤ, Option, None, Some, Result}
-use Rattle.scope_rules.specs.declared.types.events.Event.{Event}
-use Rattle.scope_rules.specs.declared.types.refusals.Refusal.{Refusal}
-use Rattle.scope_rules.specs.Replies.{Realm}
-use Rattle.scope_checks.specs.declared.event_replies.EventReply.{EventReply}
-use Rattle.scope_checks.specs.Entering.{Tells}
-use Rattle.balkreyn_c.specs.declared.timed.TimedRealm.{TimedRealm}
-use Rattle.balkreyn_c.specs.Numbers.{no_realm, bad_argument, number_of, told_number}
-use Rattle.balkreyn_c.specs.Timed.{with_realm}
+use Rattle.std.specs.Prelude.{ℤ, ◌≡◌, None, Option, Result, Some}
+use Rattle.balkreyn_c.specs.Words.{Event, EventReply, Realm, Refusal, Tells, TimedRealm}
+use Rattle.balkreyn_c.specs.{Numbers.bad_argument, Numbers.no_realm, Numbers.number_of, Numbers.told_number, Timed.with_realm}
 
 -- the event is tried: the number is that of what it is told, or of the refusal, and the realm is what that leaves
 pub record Performs (old : Realm) (e : Event) (answer : ℤ) (new : Realm) : Type 0 where

@@ -1,13 +1,6 @@
 -- By which scope an actor is cancelled: what lies around whatever it opens next.
-use Rattle.std.specs.Prelude.{ℕ, ◌==◌, Option, Result, Ok, if◌then◌else◌}
-use Rattle.std.specs.Option.{option_and_then}
-use Rattle.scope_rules.specs.declared.types.answers.Cause.{Cause}
-use Rattle.scope_rules.specs.declared.types.refusals.Refusal.{Refusal}
-use Rattle.scope_rules.specs.Cancels.{cause}
-use Rattle.scope_rules.specs.Checks.{Checked, task_check}
-use Rattle.scope_rules.specs.History.{History}
-use Rattle.scope_rules.specs.Scopes.{surrounding}
-use Rattle.scope_rules.specs.Table.{answering}
+use Rattle.std.specs.Prelude.{ℕ, ◌==◌, Ok, Option, Result, if◌then◌else◌}
+use Rattle.balkreyn_c.specs.Words.{Cause, Checked, History, Refusal, answering, cause, option_and_then, surrounding, task_check}
 
 -- main is always there, and a task if its number was given since the base
 abbrev pub around_check : History → ℕ → Checked

@@ -1,14 +1,6 @@
 -- What a query is answered, and what it writes.
-use Rattle.std.specs.Prelude.{ℕ, ℤ, List, ◌++◌, length, drop, nat_le, Option, None, Some, Result, Ok, Err, if◌then◌else◌}
-use Rattle.scope_rules.specs.declared.types.answers.Effective.{Effective}
-use Rattle.scope_rules.specs.declared.types.answers.Effective.TheVariants.{At}
-use Rattle.scope_rules.specs.declared.types.refusals.Refusal.{Refusal}
-use Rattle.scope_rules.specs.declared.types.values.Fault.{Fault}
-use Rattle.scope_rules.specs.declared.types.values.Value.{Value}
-use Rattle.scope_rules.specs.declared.types.values.Value.TheVariants.{Num, Text}
-use Rattle.scope_rules.specs.History.{History}
-use Rattle.scope_rules.specs.Names.{text_of}
-use Rattle.balkreyn_c.specs.declared.timed.TimedRealm.{TimedRealm}
+use Rattle.std.specs.Prelude.{ℕ, ℤ, ◌++◌, Err, List, None, Ok, Option, Result, Some, drop, if◌then◌else◌, length, nat_le}
+use Rattle.balkreyn_c.specs.Words.{At, Effective, Fault, History, Num, Refusal, Text, TimedRealm, Value, text_of}
 use Rattle.balkreyn_c.specs.Numbers.{no_realm}
 
 -- the number that the history gives, or that there is no realm

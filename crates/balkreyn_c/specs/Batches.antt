@@ -1,10 +1,7 @@
 -- A batch: one event, tried again and again until it is refused.
-use Rattle.std.specs.Prelude.{◌≡◌, ◌⊎◌, ◌<◌, ◌+◌, ℕ, zero, suc, ℤ, pos, ◌<ℤ◌, ◌≤ℤ◌, List, length, drop, slice_index_or, slice_set, Option, None, Some}
-use Rattle.scope_rules.specs.declared.types.events.Event.{Event}
-use Rattle.scope_rules.specs.Replies.{Realm}
-use Rattle.balkreyn_c.specs.declared.timed.TimedRealm.{TimedRealm}
-use Rattle.balkreyn_c.specs.Acting.{Answers, Refuses, Performs}
-use Rattle.balkreyn_c.specs.Timed.{with_realm}
+use Rattle.std.specs.Prelude.{ℕ, ℤ, ◌+◌, ◌<ℤ◌, ◌<◌, ◌≡◌, ◌≤ℤ◌, ◌⊎◌, List, None, Option, Some, drop, length, pos, slice_index_or, slice_set, suc, zero}
+use Rattle.balkreyn_c.specs.Words.{Event, Realm, TimedRealm}
+use Rattle.balkreyn_c.specs.{Acting.Answers, Acting.Performs, Acting.Refuses, Timed.with_realm}
 
 -- the answer at the place
 abbrev pub answer_at : List ℤ → ℕ → ℤ

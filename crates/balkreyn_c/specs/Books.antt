@@ -1,12 +1,7 @@
 -- What it is to open a realm in a book, and to close it.
-use Rattle.std.specs.Prelude.{◌≡◌, ◌⊎◌, ℕ, ℤ, pos, [], Option, None, Some}
-use Rattle.scope_rules.specs.declared.types.capacity.Limits.{Limits}
-use Rattle.scope_rules.specs.declared.types.refusals.Refusal.TheVariants.{Memory}
-use Rattle.scope_rules.specs.Capacity.{IsAllowed}
-use Rattle.scope_rules.specs.Origin.{the_start}
-use Rattle.scope_rules.specs.Replies.{starting}
-use Rattle.balkreyn_c.specs.declared.timed.TimedRealm.{TimedRealm}
-use Rattle.balkreyn_c.specs.Numbers.{no_realm, has_realm, bad_argument, refused}
+use Rattle.std.specs.Prelude.{[], ℕ, ℤ, ◌≡◌, ◌⊎◌, None, Option, Some, pos}
+use Rattle.balkreyn_c.specs.Words.{IsAllowed, Limits, Memory, TimedRealm, starting, the_start}
+use Rattle.balkreyn_c.specs.Numbers.{bad_argument, has_realm, no_realm, refused}
 
 -- the book holds a fresh realm of these limits, of which no time is noted
 pub record IsFresh (scopes tasks load : ℕ) (answer : ℤ) (new : Option TimedRealm) : Type 0 where

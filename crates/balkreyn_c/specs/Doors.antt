@@ -1,24 +1,11 @@
 -- What a line of a script does to the realm of a book, and what is told of it. What a line is answered and what it
 -- leaves are those of scripts.
-use Rattle.std.specs.Prelude.{◌≡◌, ◌⊎◌, ℤ, pos, ℕ, List, length, Option, None, Some, Err}
-use Rattle.scope_rules.specs.declared.types.refusals.Refusal.{Refusal}
-use Rattle.scope_rules.specs.declared.types.refusals.Refusal.TheVariants.{Memory}
-use Rattle.scope_rules.specs.Replies.{Realm}
-use Rattle.scope_checks.specs.Entering.{Retires, Tells}
-use Rattle.script_words.specs.declared.commands.Command.{Command}
-use Rattle.script_words.specs.declared.commands.Command.TheVariants.{Do, Retire, Ask}
-use Rattle.script_words.specs.declared.commands.Line.{Line}
+use Rattle.std.specs.Prelude.{ℕ, ℤ, ◌≡◌, ◌⊎◌, Err, List, None, Option, Some, length, pos}
+use Rattle.balkreyn_c.specs.Words.{Ask, Command, Do, Line, Memory, Performed, Performs, Realm, Refusal, Retire, Retires, Tells, TimedRealm, line_reply, line_said, realm_after, realm_after_line}
+use Rattle.balkreyn_c.specs.{Asking.text_in, Numbers.no_realm, Numbers.refused, Numbers.untold, Timed.times_left}
 use Rattle.script_words.specs.declared.commands.Line.TheVariants.{Command as command}
 use Rattle.script_words.specs.declared.reply.Reply.TheVariants as reply
-use Rattle.script_words.specs.Lines.{line_said}
-use Rattle.scope_script.specs.Replying.{Performs, realm_after}
-use Rattle.scope_script.specs.Sessions.{line_reply, realm_after_line}
-use Rattle.balkreyn_c.specs.declared.line.Performed.{Performed}
 use Rattle.balkreyn_c.specs.declared.line.Performed.TheVariants as performed
-use Rattle.balkreyn_c.specs.declared.timed.TimedRealm.{TimedRealm}
-use Rattle.balkreyn_c.specs.Asking.{text_in}
-use Rattle.balkreyn_c.specs.Numbers.{no_realm, refused, untold}
-use Rattle.balkreyn_c.specs.Timed.{times_left}
 
 -- what came of a command that was refused so
 abbrev pub not_done : Refusal → Performed

@@ -1,21 +1,7 @@
 -- An end that also tells what it changed.
-use Rattle.std.specs.Prelude.{◌≡◌, ◌⊎◌, ℕ, ℤ, Bool, true, false, List, length, Option, None, Some, Result, Ok, Err}
-use Rattle.std.specs.Option.{option_map_or}
-use Rattle.scope_rules.specs.declared.types.events.Event.{Event}
-use Rattle.scope_rules.specs.declared.types.refusals.Refusal.{Refusal}
-use Rattle.scope_rules.specs.History.{History}
-use Rattle.scope_rules.specs.Replies.{Realm}
-use Rattle.scope_rules.specs.Scopes.{forked_in}
-use Rattle.scope_rules.specs.Tasks.{settled}
-use Rattle.scope_checks.specs.declared.event_replies.EventReply.{EventReply}
-use Rattle.scope_checks.specs.Entering.{Tells}
-use Rattle.scope_index.specs.CancelsOf.{IsCancelOrderOf}
-use Rattle.scope_index.specs.Coming.{IsNextDeadline, NoDeadlineComes}
-use Rattle.balkreyn_c.specs.declared.endings.News.{News}
-use Rattle.balkreyn_c.specs.declared.timed.TimedRealm.{TimedRealm}
-use Rattle.balkreyn_c.specs.Acting.{Answers, Refuses}
-use Rattle.balkreyn_c.specs.Numbers.{number_of, told_number}
-use Rattle.balkreyn_c.specs.Timed.{with_realm}
+use Rattle.std.specs.Prelude.{ℕ, ℤ, ◌≡◌, ◌⊎◌, Bool, Err, List, None, Ok, Option, Result, Some, false, length, true}
+use Rattle.balkreyn_c.specs.Words.{Event, EventReply, History, IsCancelOrderOf, IsNextDeadline, News, NoDeadlineComes, Realm, Refusal, Tells, TimedRealm, forked_in, option_map_or, settled}
+use Rattle.balkreyn_c.specs.{Acting.Answers, Acting.Refuses, Numbers.number_of, Numbers.told_number, Timed.with_realm}
 
 -- so many scopes are cancelled
 pub record HasCancelled (h : History) (count : ℕ) : Type 0 where

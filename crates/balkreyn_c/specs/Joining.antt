@@ -1,26 +1,8 @@
 -- What a join is answered without memory, and what the list of its outcome is.
-use Rattle.std.specs.Prelude.{◌≡◌, ℕ, ℤ, pos, List, [], map, length, Option, None, Some, option_map, Result, Ok, Err}
-use Rattle.scope_rules.specs.declared.types.events.Event.TheVariants.{Join}
-use Rattle.scope_rules.specs.declared.types.outcomes.Outcome.{Outcome}
+use Rattle.std.specs.Prelude.{[], ℕ, ℤ, ◌≡◌, Err, List, None, Ok, Option, Result, Some, length, map, option_map, pos}
+use Rattle.balkreyn_c.specs.Words.{AnswersValue, BareOutcome, Checked, History, Join, Origin, Outcome, OutcomeTask, Refusal, Retires, TaskState, TaskValue, TimedRealm, after, bare_of, check_of, followed, outcome, outcome_check}
+use Rattle.balkreyn_c.specs.{Acting.Answers, Asking.placed, Numbers.no_realm, Numbers.number_of, Numbers.outcome_number, Numbers.state_code, Timed.times_left, Timed.with_realm}
 use Rattle.scope_rules.specs.declared.types.outcomes.Outcome.TheVariants as outcome_is
-use Rattle.scope_rules.specs.declared.types.outcomes.TaskState.{TaskState}
-use Rattle.scope_rules.specs.declared.types.outcomes.TaskValue.{TaskValue}
-use Rattle.scope_rules.specs.declared.types.refusals.Refusal.{Refusal}
-use Rattle.scope_rules.specs.Checks.{Checked}
-use Rattle.scope_rules.specs.History.{History, followed}
-use Rattle.scope_rules.specs.Outcomes.{outcome}
-use Rattle.scope_rules.specs.Origin.{Origin}
-use Rattle.scope_rules.specs.Replies.{AnswersValue, after, outcome_check}
-use Rattle.scope_rules.specs.Table.{check_of}
-use Rattle.scope_checks.specs.Entering.{Retires}
-use Rattle.scope_index.specs.declared.bare.BareOutcome.{BareOutcome}
-use Rattle.scope_index.specs.Bare.{bare_of}
-use Rattle.balkreyn_c.specs.declared.lists.OutcomeTask.{OutcomeTask}
-use Rattle.balkreyn_c.specs.declared.timed.TimedRealm.{TimedRealm}
-use Rattle.balkreyn_c.specs.Acting.{Answers}
-use Rattle.balkreyn_c.specs.Asking.{placed}
-use Rattle.balkreyn_c.specs.Numbers.{no_realm, number_of, outcome_number, state_code}
-use Rattle.balkreyn_c.specs.Timed.{times_left, with_realm}
 
 -- the check's refusal, or else the outcome without its list; never want of memory
 abbrev pub AnswersBare : Checked → Option Outcome → Result BareOutcome Refusal → Type 0

@@ -1,10 +1,6 @@
 -- The events of commands that come with texts.
-use Rattle.std.specs.Prelude.{ℕ, ℤ, List, Option, None, Ok, Err, option_map}
-use Rattle.std.specs.Option.{option_and_then}
-use Rattle.scope_rules.specs.declared.types.events.Event.{Event}
+use Rattle.balkreyn_c.specs.Words.{ℕ, ℤ, Err, Event, List, None, Num, Ok, Option, Text, name_said, option_and_then, option_map}
 use Rattle.scope_rules.specs.declared.types.events.Event.TheVariants as event
-use Rattle.scope_rules.specs.declared.types.values.Value.TheVariants.{Num, Text}
-use Rattle.script_words.specs.Words.{name_said}
 
 -- the label expects no end
 abbrev pub fork_of : ℕ → ℕ → List ℕ → Option Event

@@ -1,27 +1,14 @@
 -- The numbers by which C is answered: 0 and above if there was an answer, below 0 if there was none.
-use Rattle.std.specs.Prelude.{ℕ, ◌+◌, ◌-◌, ◌*◌, ℤ, pos, negsuc, Option, None, Some, Result, Ok, Err, length}
-use Rattle.scope_rules.specs.declared.types.answers.Cause.{Cause}
-use Rattle.scope_rules.specs.declared.types.answers.CauseKind.{CauseKind}
+use Rattle.std.specs.Prelude.{ℕ, ℤ, ◌*◌, ◌+◌, ◌-◌, Err, None, Ok, Option, Result, Some, length, negsuc, pos}
+use Rattle.balkreyn_c.specs.Words.{BareOutcome, Cause, CauseKind, Effective, EventReply, Fault, ForkReply, Refusal, Stage, State, Value, Verdict, refusal_number, text_of}
 use Rattle.scope_rules.specs.declared.types.answers.CauseKind.TheVariants as kind
-use Rattle.scope_rules.specs.declared.types.answers.Effective.{Effective}
 use Rattle.scope_rules.specs.declared.types.answers.Effective.TheVariants as effective
-use Rattle.scope_rules.specs.declared.types.answers.ForkReply.{ForkReply}
 use Rattle.scope_rules.specs.declared.types.answers.ForkReply.TheVariants as fork
-use Rattle.scope_rules.specs.declared.types.answers.Stage.{Stage}
 use Rattle.scope_rules.specs.declared.types.answers.Stage.TheVariants as stage
-use Rattle.scope_rules.specs.declared.types.answers.State.{State}
 use Rattle.scope_rules.specs.declared.types.answers.State.TheVariants as state
-use Rattle.scope_rules.specs.declared.types.answers.Verdict.{Verdict}
 use Rattle.scope_rules.specs.declared.types.answers.Verdict.TheVariants as verdict
-use Rattle.scope_rules.specs.declared.types.refusals.Refusal.{Refusal}
-use Rattle.scope_rules.specs.declared.types.values.Fault.{Fault}
-use Rattle.scope_rules.specs.declared.types.values.Value.{Value}
 use Rattle.scope_rules.specs.declared.types.values.Value.TheVariants as value
-use Rattle.scope_rules.specs.Names.{text_of}
-use Rattle.scope_rules.specs.Refusals.{refusal_number}
-use Rattle.scope_checks.specs.declared.event_replies.EventReply.{EventReply}
 use Rattle.scope_checks.specs.declared.event_replies.EventReply.TheVariants as told
-use Rattle.scope_index.specs.declared.bare.BareOutcome.{BareOutcome}
 use Rattle.scope_index.specs.declared.bare.BareOutcome.TheVariants as bare
 
 -- ---- if there was nothing to refuse: -21 to -25

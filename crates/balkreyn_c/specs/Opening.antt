@@ -1,13 +1,7 @@
 -- What the numbers of an open say.
-use Rattle.std.specs.Prelude.{ℕ, ◌==◌, ◌/◌, ◌%◌, nat_lt, ℤ, pos, negsuc, Option, None, Some, option_map, if◌then◌else◌}
-use Rattle.std.specs.Option.{option_and_then}
-use Rattle.scope_rules.specs.declared.types.events.Event.{Event}
+use Rattle.std.specs.Prelude.{ℕ, ℤ, ◌%◌, ◌/◌, ◌==◌, None, Option, Some, if◌then◌else◌, nat_lt, negsuc, option_map, pos}
+use Rattle.balkreyn_c.specs.Words.{All, Any, AwaitAll, AwaitOk, Event, Fail, FailuresAtLeast, MoveOn, Options, Policy, SuccessesAtLeast, SumAtLeast, Until, option_and_then}
 use Rattle.scope_rules.specs.declared.types.events.Event.TheVariants as event
-use Rattle.scope_rules.specs.declared.types.events.Expiry.TheVariants.{Fail, MoveOn}
-use Rattle.scope_rules.specs.declared.types.events.Options.{Options}
-use Rattle.scope_rules.specs.declared.types.joiners.Policy.{Policy}
-use Rattle.scope_rules.specs.declared.types.joiners.Policy.TheVariants.{All, Any, AwaitAll, AwaitOk, Until}
-use Rattle.scope_rules.specs.declared.types.joiners.Rule.TheVariants.{FailuresAtLeast, SuccessesAtLeast, SumAtLeast}
 
 -- a number of 32 bits
 abbrev pub small : ℤ → Option ℕ

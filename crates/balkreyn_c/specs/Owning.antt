@@ -1,13 +1,9 @@
 -- What a place owns: nothing, or what a box of a realm with its times owns.
-use base.Fml.{Fml, ftrue}
-use base.Stored.{Coded}
-use Rattle.std.specs.Coded.{coded_option}
-use denote.RawPtr.{Ptr}
-use Rattle.std.specs.Prelude.{Option, None, Some}
 use Rattle.std.specs.Box.Ownership.{box_owns}
-use Rattle.std.specs.Global.{Global}
-use Rattle.std_heap.specs.contracts.GlobalAllocator.TheImpl.{ghosts}
+use Rattle.balkreyn_c.specs.Words.{Global, None, Option, Some, coded_option, ghosts}
 use Rattle.balkreyn_c.specs.contracts.timed.TimedRealm.{the_row}
+use base.{Fml.Fml, Fml.ftrue, Stored.Coded}
+use denote.RawPtr.{Ptr}
 
 abbrev pub Timed : Type 0
 Timed = the_row.Denot

@@ -1,6 +1,6 @@
 -- The word of a book.
-use Rattle.std.specs.Prelude.{ℕ, ◌==◌, Bool, true, false, ℤ, if◌then◌else◌}
-use Rattle.balkreyn_c.specs.Numbers.{no_realm, busy}
+use Rattle.std.specs.Prelude.{ℕ, ℤ, ◌==◌, Bool, false, if◌then◌else◌, true}
+use Rattle.balkreyn_c.specs.Numbers.{busy, no_realm}
 
 -- between calls it says whether the book holds a realm
 abbrev pub resting : Bool → ℕ

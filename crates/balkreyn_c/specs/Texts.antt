@@ -1,17 +1,8 @@
 -- The texts that go out.
-use Rattle.std.specs.Prelude.{◌≡◌, ◌⊎◌, ℕ, ℤ, pos, List, [], ◌∷◌, ◌++◌, length, Option, None, Some, Result, Ok, Err}
-use Rattle.scope_rules.specs.declared.types.outcomes.Outcome.{Outcome}
-use Rattle.scope_rules.specs.declared.types.refusals.Refusal.{Refusal}
-use Rattle.scope_rules.specs.declared.types.refusals.Refusal.TheVariants.{Memory}
-use Rattle.scope_rules.specs.History.{History}
-use Rattle.scope_rules.specs.Outcomes.{outcome}
-use Rattle.scope_rules.specs.Replies.{AnswersValue, outcome_check}
-use Rattle.script_words.specs.declared.reply.Reply.{Reply}
+use Rattle.std.specs.Prelude.{[], ℕ, ℤ, ◌++◌, ◌∷◌, ◌≡◌, ◌⊎◌, Err, List, None, Ok, Option, Result, Some, length, pos}
+use Rattle.balkreyn_c.specs.Words.{AnswersValue, History, Memory, Outcome, Refusal, Reply, TimedRealm, outcome, outcome_check, reply_text}
+use Rattle.balkreyn_c.specs.{Asking.text_in, Numbers.no_realm, Numbers.number_of, Numbers.refused, Numbers.untold}
 use Rattle.script_words.specs.declared.reply.Reply.TheVariants as reply
-use Rattle.script_words.specs.ReplyText.{reply_text}
-use Rattle.balkreyn_c.specs.declared.timed.TimedRealm.{TimedRealm}
-use Rattle.balkreyn_c.specs.Asking.{text_in}
-use Rattle.balkreyn_c.specs.Numbers.{no_realm, number_of, refused, untold}
 
 -- the line of the reply, with its line feed
 abbrev pub reply_line : Reply → List ℕ

@@ -1,8 +1,6 @@
 -- A realm with the times of its events, and what becomes of both.
-use Rattle.std.specs.Prelude.{ℕ, ◌==◌, List, [], length, if◌then◌else◌}
-use Rattle.scope_rules.specs.History.{History}
-use Rattle.scope_rules.specs.Replies.{Realm}
-use Rattle.balkreyn_c.specs.declared.timed.TimedRealm.{TimedRealm}
+use Rattle.std.specs.Prelude.{[], ℕ, ◌==◌, List, if◌then◌else◌, length}
+use Rattle.balkreyn_c.specs.Words.{History, Realm, TimedRealm}
 
 -- another realm in its place, with the same times
 abbrev pub with_realm : TimedRealm → Realm → TimedRealm

@@ -1,13 +1,7 @@
 -- When the events of a realm happened, by the readings of its host's clock that were noted.
-use Rattle.std.specs.Prelude.{◌≡◌, ◌++◌, ◌-◌, ℕ, nat_lt, ℤ, pos, Bool, false, cond, List, length, take, replicate, slice_get, Option, Some, None, Result, Ok, Err}
-use Rattle.std.specs.Option.{option_map_or}
-use Rattle.scope_rules.specs.declared.types.events.Event.{Event}
-use Rattle.scope_rules.specs.declared.types.refusals.Refusal.{Refusal}
-use Rattle.scope_rules.specs.declared.types.refusals.Refusal.TheVariants.{ClockBack, Memory}
-use Rattle.scope_rules.specs.History.{History}
-use Rattle.balkreyn_c.specs.declared.timed.TimedRealm.{TimedRealm}
-use Rattle.balkreyn_c.specs.Acting.{Answers}
-use Rattle.balkreyn_c.specs.Numbers.{number_of}
+use Rattle.std.specs.Prelude.{ℕ, ℤ, ◌++◌, ◌-◌, ◌≡◌, Bool, Err, List, None, Ok, Option, Result, Some, cond, false, length, nat_lt, pos, replicate, slice_get, take}
+use Rattle.balkreyn_c.specs.Words.{ClockBack, Event, History, Memory, Refusal, TimedRealm, option_map_or}
+use Rattle.balkreyn_c.specs.{Acting.Answers, Numbers.number_of}
 
 -- whether the time is before that of the last event that has one
 abbrev pub is_back : List ℕ → ℕ → Bool

@@ -1,12 +1,6 @@
 -- Queries whose answer the history does not give by one number.
-use Rattle.std.specs.Prelude.{◌≡◌, ◌⊎◌, ℕ, ℤ, pos, List, slice_get, Option, None, Some, Result, Ok, Err}
-use Rattle.scope_rules.specs.declared.types.answers.Counts.{Counts}
-use Rattle.scope_rules.specs.declared.types.refusals.Refusal.{Refusal}
-use Rattle.scope_rules.specs.History.{History}
-use Rattle.scope_index.specs.Coming.{IsNextDeadline, NoDeadlineComes}
-use Rattle.scope_index.specs.CancelsOf.{IsCancelOrderOf}
-use Rattle.balkreyn_c.specs.declared.queries.TaskCounts.{TaskCounts}
-use Rattle.balkreyn_c.specs.declared.timed.TimedRealm.{TimedRealm}
+use Rattle.std.specs.Prelude.{ℕ, ℤ, ◌≡◌, ◌⊎◌, Err, List, None, Ok, Option, Result, Some, pos, slice_get}
+use Rattle.balkreyn_c.specs.Words.{Counts, History, IsCancelOrderOf, IsNextDeadline, NoDeadlineComes, Refusal, TaskCounts, TimedRealm}
 use Rattle.balkreyn_c.specs.Numbers.{no_realm, some_number}
 
 abbrev pub counts_written : Result Counts Refusal → TaskCounts → TaskCounts

@@ -1,7 +1,7 @@
 //! From the arguments of a command to its event, and from that to the answer.
 
-ghost use Rattle.std.specs.Prelude.{◌≡◌, Some, None};
-ghost use Rattle.balkreyn_c.specs.Acting.{Acts};
+ghost use Rattle.std.specs.Prelude.{◌≡◌, None, Some};
+ghost use Rattle.balkreyn_c.specs.{Acts};
 
 use crate::book::{Book, put, taken};
 use crate::numbers::{BAD_ARGUMENT, told};

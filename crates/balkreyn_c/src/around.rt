@@ -1,11 +1,7 @@
 //! By which scope an actor is cancelled: its innermost one that is not closed, or else the one in which it was forked.
 
 ghost use Rattle.std.specs.Prelude.{◌≡◌};
-ghost use Rattle.scope_rules.specs.Cancels.{cause};
-ghost use Rattle.scope_rules.specs.Scopes.{surrounding};
-ghost use Rattle.balkreyn_c.specs.Around.{around_check, around_reply, mark_reply};
-ghost use Rattle.balkreyn_c.specs.Asking.{asked};
-ghost use Rattle.balkreyn_c.specs.Numbers.{number_of, cause_number, some_number};
+ghost use Rattle.balkreyn_c.specs.{around_check, around_reply, asked, cause, cause_number, mark_reply, number_of, some_number, surrounding};
 
 use crate::book::{Book, put, taken};
 use crate::numbers::{cause, some_answer};

@@ -1,8 +1,7 @@
 //! Tasks that are forked in one call.
 
-ghost use Rattle.std.specs.Prelude.{◌≡◌, ◌<◌, ◌↔◌, ◌<ℤ◌, IsTrue, length, pos};
-ghost use Rattle.balkreyn_c.specs.Batches.{ActsMany, Batched, TriesAt, answer_at};
-ghost use Rattle.balkreyn_c.specs.Named.{fork_of};
+ghost use Rattle.std.specs.Prelude.{◌<ℤ◌, ◌<◌, ◌↔◌, ◌≡◌, IsTrue, length, pos};
+ghost use Rattle.balkreyn_c.specs.{ActsMany, Batched, TriesAt, answer_at, fork_of};
 
 use crate::book::{Book, put, taken};
 use crate::numbers::{BAD_ARGUMENT, told};

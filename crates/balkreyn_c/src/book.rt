@@ -1,8 +1,7 @@
 //! A book: it holds a realm, or none. While a call works on it, the realm is the call's, and the book's word says so: a
 //! second call that comes at once finds it, and answers that the book is busy. Of one call after another none does.
-ghost use Rattle.std.specs.Prelude.{◌≡◌, None, Some, is_some, MatchResult};
-ghost use Rattle.balkreyn_c.specs.Resting.{resting, nothing};
-ghost use Rattle.balkreyn_c.specs.Numbers.{no_realm};
+ghost use Rattle.std.specs.Prelude.{◌≡◌, MatchResult, None, Some, is_some};
+ghost use Rattle.balkreyn_c.specs.{Numbers.no_realm, Resting.nothing, Resting.resting};
 
 use crate::numbers::{BUSY, NO_REALM};
 use crate::place::Place;

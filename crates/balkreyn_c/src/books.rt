@@ -1,7 +1,7 @@
 //! A realm is opened in a book, and closed.
 
-ghost use Rattle.std.specs.Prelude.{◌≡◌, ◌⊎◌, pos, None, Some, MatchResult};
-ghost use Rattle.balkreyn_c.specs.Books.{IsFresh, IsRefused, OpensBook, WantsMemory, closing_number};
+ghost use Rattle.std.specs.Prelude.{◌≡◌, ◌⊎◌, MatchResult, None, Some, pos};
+ghost use Rattle.balkreyn_c.specs.{IsFresh, IsRefused, OpensBook, WantsMemory, closing_number};
 
 use crate::book::{Book, EMPTY, FULL, WORKING, put, taken};
 use crate::numbers::{BAD_ARGUMENT, BUSY, DONE, HAS_REALM, refused};

@@ -1,10 +1,7 @@
 //! The commands. Each tries one event in the book's realm.
 
-ghost use Rattle.std.specs.Prelude.{◌≡◌, None, Some, Ok};
-ghost use Rattle.scope_rules.specs.declared.types.values.Value.TheVariants.{Num};
-ghost use Rattle.balkreyn_c.specs.Acting.{Acts};
-ghost use Rattle.balkreyn_c.specs.Named.{fork_of, text_end_of, fault_of, bind_of, text_bind_of};
-ghost use Rattle.balkreyn_c.specs.Opening.{opening_of};
+ghost use Rattle.std.specs.Prelude.{◌≡◌, None, Ok, Some};
+ghost use Rattle.balkreyn_c.specs.{Acts, Num, bind_of, fault_of, fork_of, opening_of, text_bind_of, text_end_of};
 
 use crate::acting::act;
 use crate::book::Book;

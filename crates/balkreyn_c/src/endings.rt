@@ -1,12 +1,7 @@
 //! An end of a task that also tells what it changed: what a host asks behind each end, in the same call.
 
-ghost use Rattle.std.specs.Prelude.{◌≡◌, true, Some, Ok};
-ghost use Rattle.std.specs.Option.{option_map_or};
-ghost use Rattle.scope_rules.specs.Scopes.{forked_in};
-ghost use Rattle.scope_rules.specs.Tasks.{settled};
-ghost use Rattle.scope_rules.specs.declared.types.values.Value.TheVariants.{Num};
-ghost use Rattle.balkreyn_c.specs.Endings.{Ends, EndsTold, IsNewsOf};
-ghost use Rattle.balkreyn_c.specs.Named.{fault_of};
+ghost use Rattle.std.specs.Prelude.{◌≡◌, Ok, Some, true};
+ghost use Rattle.balkreyn_c.specs.{Ends, EndsTold, IsNewsOf, Num, fault_of, forked_in, option_map_or, settled};
 
 use crate::book::{Book, put, taken};
 use crate::numbers::{BAD_ARGUMENT, told};

@@ -2,10 +2,7 @@
 //! those of scripts.
 
 ghost use Rattle.std.specs.Prelude.{◌≡◌, MatchResult, false};
-ghost use Rattle.scope_script.specs.Replying.{answer_to, is_join};
-ghost use Rattle.script_words.specs.Lines.{line_said};
-ghost use Rattle.balkreyn_c.specs.Doors.{DidPerform, DoesLine, Lines, not_done};
-ghost use Rattle.balkreyn_c.specs.Texts.{WritesReply, reply_line};
+ghost use Rattle.balkreyn_c.specs.{DidPerform, DoesLine, Lines, WritesReply, answer_to, is_join, line_said, not_done, reply_line};
 
 use crate::book::{Book, put, taken};
 use crate::numbers::{UNTOLD, refused};

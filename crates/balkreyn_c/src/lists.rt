@@ -1,9 +1,7 @@
 //! The list of what a join answered.
 
-ghost use Rattle.std.specs.Prelude.{◌≡◌, pos, length, map};
-ghost use Rattle.balkreyn_c.specs.Asking.{placed};
-ghost use Rattle.balkreyn_c.specs.Joining.{ListsOutcome, list_in, list_number, of_state, of_value};
-ghost use Rattle.balkreyn_c.specs.Numbers.{number_of};
+ghost use Rattle.std.specs.Prelude.{◌≡◌, length, map, pos};
+ghost use Rattle.balkreyn_c.specs.{ListsOutcome, list_in, list_number, number_of, of_state, of_value, placed};
 
 use crate::book::{Book, put, taken};
 use crate::numbers::{refused, state_code};

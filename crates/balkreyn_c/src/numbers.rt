@@ -1,7 +1,7 @@
 //! The numbers by which C is answered. The header has a name for each.
 
-ghost use Rattle.std.specs.Prelude.{◌≡◌, ◌*◌, ◌+◌, ◌<◌, pos};
-ghost use Rattle.balkreyn_c.specs.Numbers.{refused, number_of, two, forked, closed, told_number, outcome_number, state_code, state_number, stage_number, kind_code, cause_number, until_number, some_number};
+ghost use Rattle.std.specs.Prelude.{◌*◌, ◌+◌, ◌<◌, ◌≡◌, pos};
+ghost use Rattle.balkreyn_c.specs.{cause_number, closed, forked, kind_code, number_of, outcome_number, refused, some_number, stage_number, state_code, state_number, told_number, two, until_number};
 
 use scope_checks::EventReply;
 use scope_index::BareOutcome;

@@ -1,7 +1,7 @@
 //! What the numbers of an open say.
 
 ghost use Rattle.std.specs.Prelude.{◌≡◌};
-ghost use Rattle.balkreyn_c.specs.Opening.{small, policy_of, options_of, opening_of};
+ghost use Rattle.balkreyn_c.specs.{opening_of, options_of, policy_of, small};
 
 use scope_rules::{Actor, Event, Expiry, Options, Policy, Rule};
 

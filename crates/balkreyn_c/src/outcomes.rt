@@ -1,11 +1,7 @@
 //! What a join answers: without memory at first, and its list afterwards.
 
 ghost use Rattle.std.specs.Prelude.{◌≡◌};
-ghost use Rattle.scope_rules.specs.History.{followed};
-ghost use Rattle.scope_rules.specs.Outcomes.{outcome};
-ghost use Rattle.scope_rules.specs.Replies.{after, outcome_check};
-ghost use Rattle.scope_rules.specs.Table.{check_of};
-ghost use Rattle.balkreyn_c.specs.Joining.{AnswersBare, Joins, TellsOutcome, LetsGo};
+ghost use Rattle.balkreyn_c.specs.{AnswersBare, Joins, LetsGo, TellsOutcome, after, check_of, followed, outcome, outcome_check};
 
 use crate::book::{Book, put, taken};
 use crate::numbers::{outcome as outcome_number, retired};

@@ -1,6 +1,6 @@
 //! The memory behind a book: a box whose pointer C may keep, typed as bytes.
 
-ghost use Rattle.std.specs.Prelude.{◌≡◌, Option, None, Some, IsNone, IsSome};
+ghost use Rattle.std.specs.Prelude.{◌≡◌, IsNone, IsSome, None, Option, Some};
 ghost use Rattle.balkreyn_c.specs.Owning.{Timed, place_coded, place_owns};
 
 mod parts;

@@ -1,18 +1,9 @@
 //! The queries. None of them changes the book's realm.
 
 ghost use Rattle.std.specs.Prelude.{◌≡◌, pos};
-ghost use Rattle.std.specs.Option.{option_map_or};
-ghost use Rattle.scope_rules.specs.Cancels.{cause, effective};
-ghost use Rattle.scope_rules.specs.Checks.{scope_check, task_check};
-ghost use Rattle.scope_rules.specs.History.{moment, scopes, tasks};
-ghost use Rattle.scope_rules.specs.Nests.{task_at_reply};
-ghost use Rattle.scope_rules.specs.Replies.{result_reply, fault_reply, binding_reply};
-ghost use Rattle.scope_rules.specs.Table.{answering, until_check};
-ghost use Rattle.scope_rules.specs.Tasks.{stage, state, counts};
-ghost use Rattle.script_words.specs.Words.{name_said};
-ghost use Rattle.balkreyn_c.specs.Asking.{asked, written, value_written, value_text_in, fault_text_in, until_written};
-ghost use Rattle.balkreyn_c.specs.Numbers.{number_of, state_number, stage_number, cause_number, until_number, some_number, value_number, fault_number, bad_argument};
-ghost use Rattle.balkreyn_c.specs.Wanting.{counts_written, next_number, next_written, NextDeadline, NthCancelled};
+ghost use Rattle.balkreyn_c.specs.{NextDeadline, NthCancelled, answering, asked, bad_argument, binding_reply, cause, cause_number, counts, counts_written, effective, fault_number, fault_reply, fault_text_in, moment, name_said};
+ghost use Rattle.balkreyn_c.specs.{next_number, next_written, number_of, option_map_or, result_reply, scope_check, scopes, some_number, stage, stage_number, state, state_number, task_at_reply, task_check, tasks, until_check};
+ghost use Rattle.balkreyn_c.specs.{until_number, until_written, value_number, value_text_in, value_written, written};
 
 use crate::book::{Book, put, taken};
 use crate::numbers::{BAD_ARGUMENT, DONE, cause, refused, some, some_answer, stage, state, until};

@@ -1,9 +1,7 @@
 //! What there is of a realm as text: the tree of its scopes, and its journal.
 
 ghost use Rattle.std.specs.Prelude.{◌≡◌};
-ghost use Rattle.script_journal.specs.Script.{script_text};
-ghost use Rattle.tree_dump.specs.Tree.{dump_text};
-ghost use Rattle.balkreyn_c.specs.Texts.{Shows, WritesOrNot};
+ghost use Rattle.balkreyn_c.specs.{Shows, WritesOrNot, dump_text, script_text};
 
 use crate::book::{Book, put, taken};
 use crate::numbers::refused;

@@ -1,8 +1,7 @@
 //! Text that goes out through a buffer of the caller's.
 
-ghost use Rattle.std.specs.Prelude.{◌≡◌, length, pos, MatchResult};
-ghost use Rattle.balkreyn_c.specs.Asking.{text_in};
-ghost use Rattle.balkreyn_c.specs.Texts.{OutcomeLine, TellsLine, Writes, reply_line};
+ghost use Rattle.std.specs.Prelude.{◌≡◌, MatchResult, length, pos};
+ghost use Rattle.balkreyn_c.specs.{OutcomeLine, TellsLine, Writes, reply_line, text_in};
 
 use crate::book::{Book, put, taken};
 use crate::numbers::refused;

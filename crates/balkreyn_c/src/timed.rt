@@ -1,9 +1,6 @@
 //! A realm with the times of its events, by the readings of its host's clock that were noted.
-ghost use Rattle.std.specs.Prelude.{◌≡◌, []};
-ghost use Rattle.scope_rules.specs.Origin.{the_start};
-ghost use Rattle.scope_rules.specs.Replies.{starting};
-ghost use Rattle.balkreyn_c.specs.Timed.{times_left};
-ghost use Rattle.balkreyn_c.specs.Timing.{IsNoted, is_back};
+ghost use Rattle.std.specs.Prelude.{[], ◌≡◌};
+ghost use Rattle.balkreyn_c.specs.{IsNoted, is_back, starting, the_start, times_left};
 
 use realm_state::RealmState;
 use scope_rules::{Limits, Refusal};

@@ -1,8 +1,6 @@
 //! When events happened: the host notes its clock's readings, and the journal says them.
 ghost use Rattle.std.specs.Prelude.{◌≡◌, IfOk, string_bytes};
-ghost use Rattle.script_journal.specs.Timed.{timed_text};
-ghost use Rattle.balkreyn_c.specs.Timing.{NotesTime};
-ghost use Rattle.balkreyn_c.specs.Texts.{Shows, WritesOrNot};
+ghost use Rattle.balkreyn_c.specs.{NotesTime, Shows, WritesOrNot, timed_text};
 
 use crate::book::{Book, put, taken};
 use crate::numbers::{noted, refused};

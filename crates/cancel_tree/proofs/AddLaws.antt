@@ -1,22 +1,9 @@
 -- What is kept stays right when a scope is added.
-use Rattle.std.proofs.Common.{◌≡◌, ◌⊎◌, ℕ, zero, suc, ◌+◌, ◌-◌, ◌<◌, ◌≤◌, Bool, true, false, cond, Option, Some, None, List, [], ◌∷◌, ◌++◌, length, get_or, slice_get, refl, ap, sym, ◌∙◌, subst, inl, inr, arith}
-use Rattle.std.specs.Option.{option_and_then, IfSome}
-use Rattle.std.proofs.lemmas.Bool.{ne_eqb, eq-eqb, cases_eq, cases_lt}
-use Rattle.std.proofs.lemmas.Option.{same_Some, slice_get-get_or, slice_get_within, slice_get_past}
-use Rattle.std.proofs.Math.ListN.{length-set}
-use Rattle.scope_rules.specs.declared.types.records.FirstCancel.{FirstCancel}
-use Rattle.cancel_tree.specs.declared.rows.ScopeNode.{ScopeNode}
-use Rattle.cancel_tree.specs.declared.rows.Links.{Links}
-use Rattle.scope_rules.specs.Chains.{IsInward, onward, chain_by, nearer}
-use Rattle.cancel_tree.specs.Rows.{row, IsAdded, outer, new_row, parent_of, outer_of, own_of, cancel_of, level_of, level_in}
-use Rattle.cancel_tree.specs.Reach.{is_scope, last_inner}
-use Rattle.cancel_tree.specs.Columns.{AreColumns, led, AreLed}
-use Rattle.scope_rules.proofs.ChainLaws.{cancel_law, cancel_kept, chain_law, chain_kept}
-use Rattle.cancel_tree.proofs.ReachLaws.{last_inner_found}
-use Rattle.cancel_tree.proofs.SpreadLaws.{slice_get-set}
-use Rattle.cancel_tree.proofs.RowLaws.{outer_inward}
-use Rattle.scope_rules.proofs.EarliestLaws.{some_none}
-use Rattle.scope_rules.proofs.Prefixes.{get_push}
+use Rattle.std.proofs.Common.{[], ℕ, ◌++◌, ◌+◌, ◌-◌, ◌<◌, ◌∙◌, ◌∷◌, ◌≡◌, ◌≤◌, ◌⊎◌, Bool, List, None, Option, Some, ap, arith, cond, false, get_or, inl, inr, length, refl, slice_get, subst, suc, sym, true, zero}
+use Rattle.cancel_tree.specs.{AreColumns, AreLed, FirstCancel, IfSome, IsAdded, IsInward, Links, ScopeNode, cancel_of, chain_by, is_scope, last_inner, led, level_in, level_of, nearer, new_row, onward, option_and_then, outer}
+use Rattle.cancel_tree.specs.{outer_of, own_of, parent_of, row}
+use Rattle.cancel_tree.proofs.Words.{cancel_kept, cancel_law, cases_eq, cases_lt, chain_kept, chain_law, eq-eqb, get_push, length-set, ne_eqb, same_Some, slice_get-get_or, slice_get_past, slice_get_within, some_none}
+use Rattle.cancel_tree.proofs.{ReachLaws.last_inner_found, RowLaws.outer_inward, SpreadLaws.slice_get-set}
 
 -- ---- one more at the end
 

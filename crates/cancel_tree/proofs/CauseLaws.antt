@@ -1,14 +1,7 @@
 -- The cause of a scope is a scope on its chain, and has no greater number.
-use Rattle.std.proofs.Common.{◌≡◌, ℕ, zero, suc, ◌≤◌, Option, Some, None, List, get_or, refl, sym, subst, arith}
-use Rattle.std.specs.Option.{option_map, IfSome}
-use Rattle.std.specs.List.{All, Contains}
-use Rattle.std.proofs.lemmas.List.Elements.{All-nil, All-cons, All-contains, Contains-get_or}
-use Rattle.scope_rules.specs.declared.types.records.FirstCancel.{FirstCancel}
-use Rattle.scope_rules.specs.Chains.{IsInward, onward, outwards, chain_by}
-use Rattle.scope_rules.specs.Earliest.{IsEarliest}
-use Rattle.scope_rules.proofs.EarliestLaws.{cancel_earliest}
-use Rattle.cancel_tree.specs.declared.rows.ScopeNode.{ScopeNode}
-use Rattle.cancel_tree.specs.Rows.{outer_of, own_of, cancel_of, cause_of}
+use Rattle.std.proofs.Common.{ℕ, ◌≡◌, ◌≤◌, List, None, Option, Some, arith, get_or, refl, subst, suc, sym, zero}
+use Rattle.cancel_tree.specs.{All, Contains, FirstCancel, IfSome, IsEarliest, IsInward, ScopeNode, cancel_of, cause_of, chain_by, onward, option_map, outer_of, outwards, own_of}
+use Rattle.cancel_tree.proofs.Words.{All-cons, All-contains, All-nil, Contains-get_or, cancel_earliest}
 
 -- each own cancel names its scope
 abbrev pub IsNamed : List ScopeNode → Type 0

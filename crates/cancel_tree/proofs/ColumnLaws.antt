@@ -1,18 +1,10 @@
 -- What is kept stays right when rows are changed.
-use Rattle.std.proofs.Common.{◌≡◌, ◌≢◌, ℕ, suc, ◌-◌, ◌<◌, ◌≤◌, Bool, true, false, cond, leb, is_some, Option, Some, None, List, [], ◌∷◌, ◌++◌, length, take, drop, get_or, slice_get, set, refl, ap, sym, ◌∙◌, subst, inl, inr, arith}
-use Rattle.std.specs.Option.{option_and_then, option_map, option_or}
-use Rattle.std.proofs.lemmas.Bool.{false≢true, leb-true, leb-false, eq-eqb, ne_eqb, cases_eq}
-use Rattle.std.proofs.lemmas.Option.{same_Some, slice_get-get_or}
-use Rattle.scope_rules.specs.declared.types.answers.CauseKind.{CauseKind}
-use Rattle.scope_rules.specs.declared.types.records.FirstCancel.{FirstCancel}
-use Rattle.cancel_tree.specs.declared.rows.ScopeNode.{ScopeNode}
-use Rattle.cancel_tree.specs.declared.rows.Links.{Links}
-use Rattle.scope_rules.specs.Chains.{IsInward, first_cancel_by, chain_by}
-use Rattle.cancel_tree.specs.Rows.{row, IsAdded, IsLatest, outer, changed, with_own, with_deadline, cancel_at, parent_of, outer_of, own_of, cancel_of}
-use Rattle.cancel_tree.specs.Reach.{reached, IsSpread, is_at_or_before}
-use Rattle.cancel_tree.specs.Columns.{IsLinked, AreColumns}
-use Rattle.cancel_tree.proofs.RowLaws.{changed_set, changed_same, row_at, altered_length, field_kept, field_at, row_changed, outer_inward}
-use Rattle.cancel_tree.proofs.FirstCancelLaws.{cancel_put, cancel_stays, cancel_bounded, reached_cancel}
+use Rattle.std.proofs.Common.{[], ℕ, ◌++◌, ◌-◌, ◌<◌, ◌∙◌, ◌∷◌, ◌≡◌, ◌≢◌, ◌≤◌, Bool, List, None, Option, Some, ap, arith, cond, drop, false, get_or, inl, inr, is_some, leb, length, refl, set, slice_get, subst, suc, sym, take, true}
+use Rattle.cancel_tree.specs.{AreColumns, CauseKind, FirstCancel, IsAdded, IsInward, IsLatest, IsLinked, IsSpread, Links, ScopeNode, cancel_at, cancel_of, chain_by, changed, first_cancel_by, is_at_or_before, option_and_then}
+use Rattle.cancel_tree.specs.{option_map, option_or, outer, outer_of, own_of, parent_of, reached, row, with_deadline, with_own}
+use Rattle.cancel_tree.proofs.Words.{cases_eq, eq-eqb, false≢true, leb-false, leb-true, ne_eqb, same_Some, slice_get-get_or}
+use Rattle.cancel_tree.proofs.{FirstCancelLaws.cancel_bounded, FirstCancelLaws.cancel_put, FirstCancelLaws.cancel_stays, FirstCancelLaws.reached_cancel, RowLaws.altered_length, RowLaws.changed_same, RowLaws.changed_set}
+use Rattle.cancel_tree.proofs.{RowLaws.field_at, RowLaws.field_kept, RowLaws.outer_inward, RowLaws.row_at, RowLaws.row_changed}
 
 pub kept_from : (nodes new : List ScopeNode) (links : List Links) (cancels cancels_new : List (Option FirstCancel)) → length new ≡ length nodes → parent_of new ≡ parent_of nodes → outer_of new ≡ outer_of nodes → length cancels_new ≡ length cancels
     → ((s : ℕ) (c : FirstCancel) → own_of new s ≡ Some c → c.cause.scope ≡ s) → ((i : ℕ) → i < length nodes → slice_get cancels_new i ≡ Some (cancel_of new (suc i))) → AreColumns nodes links cancels → AreColumns new links cancels_new

@@ -1,14 +1,8 @@
 -- What an own cancel of a scope makes of the cancels.
-use Rattle.std.proofs.Common.{◌≡◌, ◌≢◌, ℕ, ◌<◌, ◌≤◌, Bool, true, false, cond, ◌&&◌, ◌||◌, leb, Option, Some, None, is_none, refl, ap, sym, ◌∙◌, subst, inl, inr, arith}
-use Rattle.std.specs.Option.{option_and_then}
-use Rattle.std.proofs.lemmas.Bool.{false≢true, eq-eqb, ne_eqb, le-leb, lt-leb, cases_eq, cases_Bool}
-use Rattle.std.proofs.lemmas.Option.{same_Some}
-use Rattle.scope_rules.specs.declared.types.records.FirstCancel.{FirstCancel}
-use Rattle.scope_rules.specs.Chains.{IsInward, nearer, first_cancel_by}
-use Rattle.cancel_tree.specs.Reach.{reached}
-use Rattle.scope_rules.proofs.ChainLaws.{along, cancel_law}
-use Rattle.cancel_tree.proofs.ReachLaws.{reached_law, reached_itself, reached_above, from_outside}
-use Rattle.scope_rules.proofs.EarliestLaws.{some_none}
+use Rattle.std.proofs.Common.{ℕ, ◌&&◌, ◌<◌, ◌||◌, ◌∙◌, ◌≡◌, ◌≢◌, ◌≤◌, Bool, None, Option, Some, ap, arith, cond, false, inl, inr, is_none, leb, refl, subst, sym, true}
+use Rattle.cancel_tree.specs.{FirstCancel, IsInward, first_cancel_by, nearer, option_and_then, reached}
+use Rattle.cancel_tree.proofs.Words.{along, cancel_law, cases_Bool, cases_eq, eq-eqb, false≢true, le-leb, lt-leb, ne_eqb, same_Some, some_none}
+use Rattle.cancel_tree.proofs.ReachLaws.{from_outside, reached_above, reached_itself, reached_law}
 
 -- what holds of the near one and of the far one holds of the nearer
 nearer_holds : (P : FirstCancel → Type 0) (a b : Option FirstCancel) → ((c : FirstCancel) → a ≡ Some c → P c) → ((c : FirstCancel) → b ≡ Some c → P c) → (c : FirstCancel) → nearer a b ≡ Some c → P c

@@ -1,16 +1,9 @@
 -- After each call the latest own cancel and the latest opening are where they were, or at the place that
 -- was handed in.
-use Rattle.std.proofs.Common.{◌≡◌, ◌⊎◌, inl, inr, ℕ, zero, suc, ◌≤◌, Bool, true, false, cond, eqb, Option, Some, None, List, [], ◌∷◌, ◌++◌, refl, ap, sym, ◌∙◌, subst, arith}
-use Rattle.std.specs.Option.{option_and_then, option_map, option_or}
-use Rattle.std.proofs.lemmas.Option.{same_Some, slice_get_within}
-use Rattle.scope_rules.specs.declared.types.answers.CauseKind.{CauseKind}
-use Rattle.scope_rules.specs.declared.types.records.FirstCancel.{FirstCancel}
-use Rattle.cancel_tree.specs.declared.rows.ScopeNode.{ScopeNode}
-use Rattle.cancel_tree.specs.Rows.{row, IsLatest, changed, new_row, with_own, with_deadline, cancel_at, own_of, opened_of}
-use Rattle.cancel_tree.proofs.RowLaws.{row_changed, field_kept}
-use Rattle.cancel_tree.proofs.AddLaws.{push_cases}
-use Rattle.scope_rules.proofs.EarliestLaws.{some_none}
-use Rattle.scope_rules.proofs.Prefixes.{get_push}
+use Rattle.std.proofs.Common.{[], ℕ, ◌++◌, ◌∙◌, ◌∷◌, ◌≡◌, ◌≤◌, ◌⊎◌, Bool, List, None, Option, Some, ap, arith, cond, eqb, false, inl, inr, refl, subst, suc, sym, true, zero}
+use Rattle.cancel_tree.specs.{CauseKind, FirstCancel, IsLatest, ScopeNode, cancel_at, changed, new_row, opened_of, option_and_then, option_map, option_or, own_of, row, with_deadline, with_own}
+use Rattle.cancel_tree.proofs.Words.{get_push, same_Some, slice_get_within, some_none}
+use Rattle.cancel_tree.proofs.{AddLaws.push_cases, RowLaws.field_kept, RowLaws.row_changed}
 
 -- a row of the rows with one more is the new one, or one that was there
 row_cases : (nodes : List ScopeNode) (r : ScopeNode) (s : ℕ) (t : ScopeNode) → row (nodes ++ r ∷ []) s ≡ Some t → (t ≡ r) ⊎ (row nodes s ≡ Some t)

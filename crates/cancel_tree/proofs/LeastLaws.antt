@@ -1,9 +1,7 @@
 -- The least deadline of a chain, as a walk outwards finds it.
-use Rattle.std.proofs.Common.{◌≡◌, ℕ, ◌<◌, ◌≤◌, Option, Some, None, min, refl, ap, sym, ◌∙◌, arith}
-use Rattle.std.specs.Option.{option_and_then}
-use Rattle.std.proofs.lemmas.Option.{same_Some}
-use Rattle.scope_rules.specs.Chains.{IsInward, chain_by, sooner, least_on}
-use Rattle.scope_rules.proofs.ChainLaws.{least_law}
+use Rattle.std.proofs.Common.{ℕ, ◌<◌, ◌∙◌, ◌≡◌, ◌≤◌, None, Option, Some, ap, arith, min, refl, sym}
+use Rattle.cancel_tree.specs.{IsInward, chain_by, least_on, option_and_then, sooner}
+use Rattle.cancel_tree.proofs.Words.{least_law, same_Some}
 use Rattle.cancel_tree.proofs.ReachLaws.{place}
 
 min_assoc : (a b c : ℕ) → min (min a b) c ≡ min a (min b c)

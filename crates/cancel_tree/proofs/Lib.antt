@@ -11,3 +11,4 @@ pub mod ListLaws
 pub mod RunLaws
 pub mod ListedLaws
 pub mod OrderLaws
+mod Words

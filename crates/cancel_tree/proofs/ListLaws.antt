@@ -1,20 +1,10 @@
 -- Lists of scopes: how often each stands in one, and in which order.
-use Rattle.std.proofs.Common.{◌≡◌, inl, inr, ℕ, zero, suc, ◌+◌, ◌<◌, ◌≤◌, Bool, true, false, cond, eqb, Option, Some, None, is_some, List, [], ◌∷◌, ◌++◌, length, slice_get, get_or, set, All, AllPairs, Contains, count_by, refl, ap, sym, ◌∙◌, subst, arith}
-use Rattle.std.specs.Option.{option_and_then}
-use Rattle.std.proofs.lemmas.Bool.{ne_eqb, eq-eqb, cases_eq, cases_lt}
-use Rattle.std.proofs.lemmas.Option.{slice_get_past, slice_get-get_or}
-use Rattle.std.proofs.lemmas.List.Elements.{All-head, All-tail, All-append, All-from_get_or, Contains-get_or}
-use Rattle.std.proofs.lemmas.List.Kept.{AllPairs-cons}
-use Rattle.std.proofs.lemmas.List.Sums.{sum_by-cons, sum_by-append, sum_by_push, sum_by-set, count_by-le-length}
-use Rattle.std.proofs.lemmas.List.Sorted.{sum_by-IsPermutation, length_permutation}
-use Rattle.std.specs.Prelude.{IsPermutation}
-use Rattle.scope_rules.specs.declared.types.records.FirstCancel.{FirstCancel}
-use Rattle.scope_rules.proofs.Prefixes.{get_push}
-use Rattle.cancel_tree.specs.CancelOrder.{times, IsOnce, has_cancel, IsListOf, IsGrown}
-use Rattle.cancel_tree.specs.declared.cancel_order.CancelOrder.{CancelOrder}
-use Rattle.std.proofs.lemmas.List.{append-nil, append_assoc}
-use Rattle.cancel_tree.proofs.SpreadLaws.{slice_get-set}
-use Rattle.cancel_tree.proofs.AddLaws.{push_length, push_here}
+use Rattle.std.proofs.Common.{[], ℕ, ◌++◌, ◌+◌, ◌<◌, ◌∙◌, ◌∷◌, ◌≡◌, ◌≤◌, All, AllPairs, Bool, Contains, IsPermutation, List, None, Option, Some, ap, arith, cond, count_by, eqb, false, get_or, inl, inr, is_some, length, refl, set}
+use Rattle.std.proofs.Common.{slice_get, subst, suc, sym, true, zero}
+use Rattle.cancel_tree.specs.{FirstCancel, IsGrown, IsListOf, IsOnce, Words.CancelOrder, has_cancel, option_and_then, times}
+use Rattle.cancel_tree.proofs.Words.{All-append, All-from_get_or, All-head, All-tail, AllPairs-cons, Contains-get_or, append-nil, append_assoc, cases_eq, cases_lt, count_by-le-length, eq-eqb, get_push, length_permutation, ne_eqb}
+use Rattle.cancel_tree.proofs.Words.{slice_get-get_or, slice_get_past, sum_by-IsPermutation, sum_by-append, sum_by-cons, sum_by-set, sum_by_push}
+use Rattle.cancel_tree.proofs.{AddLaws.push_here, AddLaws.push_length, SpreadLaws.slice_get-set}
 
 -- ---- how often
 

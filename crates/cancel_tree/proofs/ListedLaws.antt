@@ -1,30 +1,14 @@
 -- The cancelled scopes stay listed through each call.
-use Rattle.std.proofs.Common.{◌≡◌, inl, inr, ℕ, zero, suc, ◌+◌, ◌-◌, ◌<◌, ◌≤◌, max, Bool, true, false, cond, is_some, Option, Some, None, List, [], ◌∷◌, ◌++◌, length, slice_get, get_or, AllPairs, vec_capacity, refl, ap, sym, ◌∙◌, subst, arith}
-use Rattle.std.specs.Prelude.{IsPermutation}
-use Rattle.std.specs.Option.{option_and_then, option_map, IfSome}
-use Rattle.std.proofs.lemmas.Bool.{false≢true, cases_lt, cases_Bool}
-use Rattle.std.proofs.lemmas.Option.{same_Some, slice_get_past, slice_get_within}
-use Rattle.std.proofs.lemmas.List.Elements.{Contains-get_or}
-use Rattle.scope_rules.specs.declared.types.answers.CauseKind.{CauseKind}
-use Rattle.scope_rules.specs.declared.types.records.FirstCancel.{FirstCancel}
-use Rattle.scope_rules.specs.Chains.{IsInward, first_cancel_by, nearer}
-use Rattle.scope_rules.proofs.ChainLaws.{cancel_law}
-use Rattle.scope_rules.proofs.EarliestLaws.{some_none}
-use Rattle.cancel_tree.specs.declared.rows.ScopeNode.{ScopeNode}
-use Rattle.cancel_tree.specs.declared.rows.Links.{Links}
-use Rattle.cancel_tree.specs.declared.cancel_order.CancelOrder.{CancelOrder}
-use Rattle.cancel_tree.specs.Rows.{row, IsAdded, IsLatest, outer, changed, new_row, with_own, with_deadline, cancel_at, outer_of, own_of, opened_of, cancel_of, cancelled_at}
-use Rattle.cancel_tree.specs.Reach.{reached, is_at_or_before}
-use Rattle.cancel_tree.specs.Columns.{AreColumns}
-use Rattle.cancel_tree.specs.Order.{IsBefore, IsCancelOrder}
-use Rattle.cancel_tree.specs.CancelOrder.{times, IsOnce, has_cancel, IsListOf, AreRuns, IsGrown, AreListed}
-use Rattle.cancel_tree.proofs.RowLaws.{outer_inward, field_kept}
-use Rattle.cancel_tree.proofs.FirstCancelLaws.{cancel_bounded}
-use Rattle.cancel_tree.proofs.ColumnLaws.{cancels_put, cancels_later, cancel_replaced, now, outers_kept}
-use Rattle.cancel_tree.proofs.LatestLaws.{latest_add, latest_before, latest_deadline_before, latest_cancel_before, openings_cancel, openings_deadline}
-use Rattle.cancel_tree.proofs.AddLaws.{push_length, row_before, row_here, inward_new, cancel_before, cancel_here}
-use Rattle.cancel_tree.proofs.ListLaws.{contains_times, times_contains, listed_new, listed_moved, listed_once, added_new, pairs_nil}
-use Rattle.cancel_tree.proofs.RunLaws.{runs_same, runs_stay, runs_grow, all_ordered}
+use Rattle.std.proofs.Common.{[], ℕ, ◌++◌, ◌+◌, ◌-◌, ◌<◌, ◌∙◌, ◌∷◌, ◌≡◌, ◌≤◌, AllPairs, Bool, IsPermutation, List, None, Option, Some, ap, arith, cond, false, get_or, inl, inr, is_some, length, max, refl, slice_get, subst, suc}
+use Rattle.std.proofs.Common.{sym, true, vec_capacity, zero}
+use Rattle.cancel_tree.specs.{AreColumns, AreListed, AreRuns, CauseKind, FirstCancel, IfSome, IsAdded, IsBefore, IsCancelOrder, IsGrown, IsInward, IsLatest, IsListOf, IsOnce, Links, ScopeNode, Words.CancelOrder, cancel_at}
+use Rattle.cancel_tree.specs.{cancel_of, cancelled_at, changed, first_cancel_by, has_cancel, is_at_or_before, nearer, new_row, opened_of, option_and_then, option_map, outer, outer_of, own_of, reached, row, times, with_deadline}
+use Rattle.cancel_tree.specs.{with_own}
+use Rattle.cancel_tree.proofs.Words.{Contains-get_or, cancel_law, cases_Bool, cases_lt, false≢true, same_Some, slice_get_past, slice_get_within, some_none}
+use Rattle.cancel_tree.proofs.{AddLaws.cancel_before, AddLaws.cancel_here, AddLaws.inward_new, AddLaws.push_length, AddLaws.row_before, AddLaws.row_here, ColumnLaws.cancel_replaced, ColumnLaws.cancels_later}
+use Rattle.cancel_tree.proofs.{ColumnLaws.cancels_put, ColumnLaws.now, ColumnLaws.outers_kept, FirstCancelLaws.cancel_bounded, LatestLaws.latest_add, LatestLaws.latest_before, LatestLaws.latest_cancel_before}
+use Rattle.cancel_tree.proofs.{LatestLaws.latest_deadline_before, LatestLaws.openings_cancel, LatestLaws.openings_deadline, ListLaws.added_new, ListLaws.contains_times, ListLaws.listed_moved, ListLaws.listed_new}
+use Rattle.cancel_tree.proofs.{ListLaws.listed_once, ListLaws.pairs_nil, ListLaws.times_contains, RowLaws.field_kept, RowLaws.outer_inward, RunLaws.all_ordered, RunLaws.runs_grow, RunLaws.runs_same, RunLaws.runs_stay}
 
 -- ---- the place of a cancellation
 

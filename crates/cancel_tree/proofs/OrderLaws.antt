@@ -1,7 +1,7 @@
 -- There is one list in order of the cancellation, and no other.
-use Rattle.std.proofs.Common.{◌≡◌, ◌⊎◌, inl, inr, ℕ, zero, suc, Bool, Option, List, [], ◌∷◌, AllPairs, Contains, refl, sym, ◌∙◌, subst, arith}
-use Rattle.std.proofs.lemmas.Option.{same_Some}
-use Rattle.cancel_tree.specs.Order.{IsBefore, IsInOrder}
+use Rattle.std.proofs.Common.{[], ℕ, ◌∙◌, ◌∷◌, ◌≡◌, ◌⊎◌, AllPairs, Bool, Contains, List, Option, arith, inl, inr, refl, subst, suc, sym, zero}
+use Rattle.cancel_tree.specs.{IsBefore, IsInOrder}
+use Rattle.cancel_tree.proofs.Words.{same_Some}
 
 module _ (when : ℕ → Option ℕ) where
   -- of two scopes only one comes before the other

@@ -1,12 +1,7 @@
 -- The laws of what a cancel reaches.
-use Rattle.std.proofs.Common.{◌≡◌, ◌≢◌, ℕ, zero, suc, ◌<◌, ◌≤◌, Bool, true, false, cond, ◌&&◌, ◌||◌, eqb, leb, Option, Some, None, is_none, refl, ap, sym, ◌∙◌, inl, inr, arith}
-use Rattle.std.proofs.lemmas.Bool.{false≢true, eqb-true, eqb-false, eq-eqb, ne_eqb, le-leb, lt-leb, cases_eq, cases_lt, cases_Bool}
-use Rattle.std.proofs.lemmas.Bool.Decides.{nat_tests}
-use Rattle.std.proofs.lemmas.Option.{same_Some}
-use Rattle.scope_rules.specs.declared.types.records.FirstCancel.{FirstCancel}
-use Rattle.scope_rules.specs.Chains.{IsInward, onward, chain_by}
-use Rattle.cancel_tree.specs.Reach.{head_is, leads, reached, is_scope, last_inner}
-use Rattle.scope_rules.proofs.ChainLaws.{along, chain_law}
+use Rattle.std.proofs.Common.{ℕ, ◌&&◌, ◌<◌, ◌||◌, ◌∙◌, ◌≡◌, ◌≢◌, ◌≤◌, Bool, None, Option, Some, ap, arith, cond, eqb, false, inl, inr, is_none, leb, refl, suc, sym, true, zero}
+use Rattle.cancel_tree.specs.{FirstCancel, IsInward, chain_by, head_is, is_scope, last_inner, leads, onward, reached}
+use Rattle.cancel_tree.proofs.Words.{along, cases_Bool, cases_eq, cases_lt, chain_law, eq-eqb, eqb-false, eqb-true, false≢true, le-leb, lt-leb, nat_tests, ne_eqb, same_Some}
 
 -- what comes from outside: nothing, or what reaches the outer scope, if that is not s itself
 abbrev pub from_outside : ℕ → ℕ → ℕ → (ℕ → Bool) → Option ℕ → Bool

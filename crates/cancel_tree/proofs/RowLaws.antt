@@ -1,13 +1,7 @@
 -- Rows by the numbers of their scopes.
-use Rattle.std.proofs.Common.{◌≡◌, ℕ, zero, suc, ◌-◌, ◌<◌, ◌≤◌, Bool, true, false, cond, eqb, Option, Some, None, List, [], ◌∷◌, length, get_or, slice_get, set, refl, ap, sym, ◌∙◌, arith}
-use Rattle.std.specs.Option.{option_and_then, option_map}
-use Rattle.std.proofs.lemmas.Bool.{ne_eqb}
-use Rattle.std.proofs.lemmas.Bool.Decides.{nat_tests}
-use Rattle.std.proofs.lemmas.List.{set-get_or}
-use Rattle.std.proofs.lemmas.Option.{slice_get-get_or}
-use Rattle.scope_rules.specs.Chains.{IsInward}
-use Rattle.cancel_tree.specs.declared.rows.ScopeNode.{ScopeNode}
-use Rattle.cancel_tree.specs.Rows.{row, altered, changed, IsAdded, outer, outer_of, parent_of}
+use Rattle.std.proofs.Common.{[], ℕ, ◌-◌, ◌<◌, ◌∙◌, ◌∷◌, ◌≡◌, ◌≤◌, Bool, List, None, Option, Some, ap, arith, cond, eqb, false, get_or, length, refl, set, slice_get, suc, sym, true, zero}
+use Rattle.cancel_tree.specs.{IsAdded, IsInward, ScopeNode, altered, changed, option_and_then, option_map, outer, outer_of, parent_of, row}
+use Rattle.cancel_tree.proofs.Words.{nat_tests, ne_eqb, set-get_or, slice_get-get_or}
 
 pub row_at : (nodes : List ScopeNode) (s : ℕ) (d : ScopeNode) → IsAdded nodes s → row nodes s ≡ Some (get_or nodes (s - 1) d)
 row_at nodes zero d h = absurd (omega (arith, h.0))

@@ -1,18 +1,9 @@
 -- What the calls make of the runs in which the cancelled scopes are listed.
-use borrow.Rule.Slice.PartMut.{mid_of, put_mid, mid_len}
-use Rattle.std.proofs.Common.{◌≡◌, ◌≢◌, ◌⊎◌, inl, inr, ℕ, zero, suc, ◌+◌, ◌-◌, ◌<◌, ◌≤◌, true, false, Option, Some, List, [], ◌∷◌, ◌++◌, length, take, drop, get_or, All, AllPairs, refl, ap, sym, ◌∙◌, subst, arith}
-use Rattle.std.specs.Prelude.{IsPermutation}
-use Rattle.std.specs.List.Sorted.{IsNonDecreasing}
-use Rattle.std.proofs.lemmas.Bool.{false≢true, cases_eq}
-use Rattle.std.proofs.lemmas.List.{append-nil, append_assoc, length-drop}
-use Rattle.std.proofs.lemmas.Slice.{take-put_mid}
-use Rattle.std.proofs.lemmas.List.Elements.{All-nil, All-cons, All-append, All-weaker}
-use Rattle.std.proofs.lemmas.List.Sorted.{IsPermutation-refl, IsPermutation-append, IsPermutation-put_mid, length_permutation, All-permutation}
-use Rattle.cancel_tree.specs.declared.cancel_order.CancelOrder.{CancelOrder}
-use Rattle.cancel_tree.specs.CancelOrder.{IsOnce, IsEarlier, AreRuns, IsGrown}
-use Rattle.cancel_tree.specs.Order.{IsBefore}
-use Rattle.cancel_tree.proofs.ColumnLaws.{written_back}
-use Rattle.cancel_tree.proofs.ListLaws.{times_append, times_moved, twice_times, pairs_nil, pairs_append}
+use Rattle.std.proofs.Common.{[], ℕ, ◌++◌, ◌+◌, ◌-◌, ◌<◌, ◌∙◌, ◌∷◌, ◌≡◌, ◌≢◌, ◌≤◌, ◌⊎◌, All, AllPairs, IsPermutation, List, Option, Some, ap, arith, drop, false, get_or, inl, inr, length, refl, subst, suc, sym, take, true, zero}
+use Rattle.cancel_tree.specs.{AreRuns, IsBefore, IsEarlier, IsGrown, IsNonDecreasing, IsOnce, Words.CancelOrder}
+use Rattle.cancel_tree.proofs.Words.{All-append, All-cons, All-nil, All-permutation, All-weaker, IsPermutation-append, IsPermutation-put_mid, IsPermutation-refl, append-nil, append_assoc, cases_eq, false≢true, length-drop}
+use Rattle.cancel_tree.proofs.Words.{length_permutation, mid_len, mid_of, put_mid, take-put_mid}
+use Rattle.cancel_tree.proofs.{ColumnLaws.written_back, ListLaws.pairs_append, ListLaws.pairs_nil, ListLaws.times_append, ListLaws.times_moved, ListLaws.twice_times}
 
 -- ---- the runs of more scopes
 

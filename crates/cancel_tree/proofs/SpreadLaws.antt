@@ -1,16 +1,8 @@
 -- What each turn of the walk over the scopes inside a scope leaves.
-use Rattle.std.proofs.Common.{◌≡◌, ◌≢◌, ℕ, zero, suc, ◌-◌, ◌<◌, ◌≤◌, Bool, true, false, cond, ◌&&◌, ◌||◌, eqb, Option, Some, None, is_none, List, [], ◌∷◌, length, get_or, slice_get, set, refl, ap, sym, ◌∙◌, arith}
-use Rattle.std.proofs.lemmas.Bool.{ne_eqb}
-use Rattle.std.proofs.lemmas.Bool.Decides.{nat_tests}
-use Rattle.std.proofs.lemmas.Option.{slice_get-get_or}
-use Rattle.scope_rules.specs.declared.types.records.FirstCancel.{FirstCancel}
-use Rattle.scope_rules.specs.Chains.{IsInward}
-use Rattle.cancel_tree.specs.Reach.{reached, last_inner, IsSpread}
-use Rattle.cancel_tree.specs.declared.rows.Links.{Links}
-use Rattle.cancel_tree.specs.Columns.{IsLinked}
-use Rattle.cancel_tree.specs.declared.cancel_order.CancelOrder.{CancelOrder}
-use Rattle.cancel_tree.specs.CancelOrder.{IsListOf, IsGrown}
-use Rattle.cancel_tree.proofs.ReachLaws.{reached_skip, reached_start, reached_step, last_inner_found, last_inner_after, last_inner_place, place}
+use Rattle.std.proofs.Common.{[], ℕ, ◌&&◌, ◌-◌, ◌<◌, ◌||◌, ◌∙◌, ◌∷◌, ◌≡◌, ◌≢◌, ◌≤◌, Bool, List, None, Option, Some, ap, arith, cond, eqb, false, get_or, is_none, length, refl, set, slice_get, suc, sym, true, zero}
+use Rattle.cancel_tree.specs.{FirstCancel, IsGrown, IsInward, IsLinked, IsListOf, IsSpread, Links, Words.CancelOrder, last_inner, reached}
+use Rattle.cancel_tree.proofs.Words.{nat_tests, ne_eqb, slice_get-get_or}
+use Rattle.cancel_tree.proofs.ReachLaws.{last_inner_after, last_inner_found, last_inner_place, place, reached_skip, reached_start, reached_step}
 
 -- the number from which on the inner scopes were visited
 abbrev pub bound : Option ℕ → ℕ

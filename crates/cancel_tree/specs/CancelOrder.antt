@@ -1,13 +1,7 @@
 -- What a tree keeps of the order in which its scopes were cancelled.
-use Rattle.std.specs.Prelude.{◌≡◌, ℕ, zero, suc, ◌<◌, ◌≤◌, Bool, true, false, cond, ◌==◌, is_some, Option, Some, List, All, AllPairs, ◌++◌, length, slice_get, count_by, vec_capacity}
-use Rattle.std.specs.Option.{option_and_then}
-use Rattle.scope_rules.specs.declared.types.records.FirstCancel.{FirstCancel}
-use Rattle.cancel_tree.specs.declared.rows.ScopeNode.{ScopeNode}
-use Rattle.cancel_tree.specs.declared.rows.Links.{Links}
-use Rattle.cancel_tree.specs.declared.cancel_order.CancelOrder.{CancelOrder}
-use Rattle.cancel_tree.specs.Rows.{IsLatest, cancelled_at}
-use Rattle.cancel_tree.specs.Order.{IsBefore}
-use Rattle.cancel_tree.specs.Columns.{AreColumns}
+use Rattle.std.specs.Prelude.{ℕ, ◌++◌, ◌<◌, ◌==◌, ◌≡◌, ◌≤◌, All, AllPairs, Bool, List, Option, Some, cond, count_by, false, is_some, length, slice_get, suc, true, vec_capacity, zero}
+use Rattle.cancel_tree.specs.Words.{CancelOrder, FirstCancel, Links, ScopeNode, option_and_then}
+use Rattle.cancel_tree.specs.{Columns.AreColumns, Order.IsBefore, Rows.IsLatest, Rows.cancelled_at}
 
 -- how often the scope is in the list
 abbrev pub times : ℕ → List ℕ → ℕ

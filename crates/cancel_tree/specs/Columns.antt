@@ -1,12 +1,8 @@
 -- What a tree keeps beside its nodes.
-use Rattle.std.specs.Prelude.{◌≡◌, ℕ, suc, ◌-◌, ◌<◌, Option, Some, None, List, length, slice_get}
+use Rattle.std.specs.Prelude.{ℕ, ◌-◌, ◌<◌, ◌≡◌, List, None, Option, Some, length, slice_get, suc}
 use Rattle.std.proofs.Common.{get_or, set}
-use Rattle.scope_rules.specs.declared.types.records.FirstCancel.{FirstCancel}
-use Rattle.cancel_tree.specs.declared.rows.ScopeNode.{ScopeNode}
-use Rattle.cancel_tree.specs.declared.rows.Links.{Links}
-use Rattle.scope_rules.specs.Chains.{IsInward}
-use Rattle.cancel_tree.specs.Rows.{parent_of, outer_of, own_of, level_of, cancel_of}
-use Rattle.cancel_tree.specs.Reach.{last_inner}
+use Rattle.cancel_tree.specs.Words.{FirstCancel, IsInward, Links, ScopeNode}
+use Rattle.cancel_tree.specs.{Reach.last_inner, Rows.cancel_of, Rows.level_of, Rows.outer_of, Rows.own_of, Rows.parent_of}
 
 -- the links of a scope lead to the last scope inside it, and to the one before it in its outer scope
 pub record IsLinked (outer : ℕ → Option ℕ) (links : List Links) : Type 0 where

@@ -1,9 +1,8 @@
 -- What a tree is once a list that it lent is handed back.
-use Rattle.std.specs.Prelude.{◌≡◌, ⊤, List}
-use Rattle.std.specs.Borrow.{follows_so, Fml, MutBor}
-use mathlib.Core.Option.{none}
-use Rattle.cancel_tree.specs.declared.rows.ScopeNode.{ScopeNode}
+use Rattle.std.specs.Prelude.{⊤, ◌≡◌, List}
+use Rattle.cancel_tree.specs.Words.{Fml, MutBor, ScopeNode, follows_so}
 use Rattle.cancel_tree.specs.contracts.tree.Tree.{the_row}
+use mathlib.Core.Option.{none}
 
 -- its nodes are as they were
 abbrev pub KeepsNodes : MutBor (List ScopeNode) → Fml

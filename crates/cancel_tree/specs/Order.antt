@@ -1,7 +1,6 @@
 -- The scopes in order of their cancellation.
-use Rattle.std.specs.Prelude.{◌≡◌, ℕ, ◌<◌, ◌≤◌, Bool, true, is_some, Option, Some, List, AllPairs}
-use Rattle.std.specs.List.{Contains}
-use Rattle.cancel_tree.specs.declared.rows.ScopeNode.{ScopeNode}
+use Rattle.std.specs.Prelude.{ℕ, ◌<◌, ◌≡◌, ◌≤◌, AllPairs, Bool, List, Option, Some, is_some, true}
+use Rattle.cancel_tree.specs.Words.{Contains, ScopeNode}
 use Rattle.cancel_tree.specs.Rows.{cancel_of, cancelled_at}
 
 -- s became cancelled before t, or at the same place, and then s has the smaller number

@@ -1,7 +1,6 @@
 -- Which scopes a cancel reaches, and in which order its walk visits them.
-use Rattle.std.specs.Prelude.{◌≡◌, ◌<◌, length, slice_get, ℕ, zero, suc, Bool, true, false, cond, ◌&&◌, ◌||◌, ◌==◌, nat_le, is_none, Option, Some, None, List, [], ◌∷◌}
-use Rattle.scope_rules.specs.declared.types.records.FirstCancel.{FirstCancel}
-use Rattle.scope_rules.specs.Chains.{chain_by}
+use Rattle.std.specs.Prelude.{[], ℕ, ◌&&◌, ◌<◌, ◌==◌, ◌||◌, ◌∷◌, ◌≡◌, Bool, List, None, Option, Some, cond, false, is_none, length, nat_le, slice_get, suc, true, zero}
+use Rattle.cancel_tree.specs.Words.{FirstCancel, chain_by}
 
 abbrev pub head_is : ℕ → List ℕ → Bool
 head_is s [] = false

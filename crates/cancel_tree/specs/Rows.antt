@@ -1,12 +1,6 @@
 -- The nodes of a tree: one for each scope, in order of their numbers, which count from 1.
-use Rattle.std.specs.Prelude.{◌≡◌, ℕ, zero, suc, ◌+◌, ◌-◌, ◌≤◌, max, Bool, cond, Option, Some, None, List, [], ◌∷◌, length, slice_get}
-use Rattle.std.specs.Option.{option_and_then, option_map, option_or}
-use Rattle.scope_rules.specs.declared.types.answers.Cause.{Cause}
-use Rattle.scope_rules.specs.declared.types.answers.CauseKind.{CauseKind}
-use Rattle.scope_rules.specs.declared.types.answers.Effective.{Effective}
-use Rattle.scope_rules.specs.declared.types.records.FirstCancel.{FirstCancel}
-use Rattle.cancel_tree.specs.declared.rows.ScopeNode.{ScopeNode}
-use Rattle.scope_rules.specs.Chains.{chain_by, first_cancel_by, effective_by}
+use Rattle.std.specs.Prelude.{[], ℕ, ◌+◌, ◌-◌, ◌∷◌, ◌≡◌, ◌≤◌, Bool, List, None, Option, Some, cond, length, max, slice_get, suc, zero}
+use Rattle.cancel_tree.specs.Words.{Cause, CauseKind, Effective, FirstCancel, ScopeNode, chain_by, effective_by, first_cancel_by, option_and_then, option_map, option_or}
 
 -- the row of the scope
 abbrev pub row : List ScopeNode → ℕ → Option ScopeNode

@@ -1,6 +1,6 @@
 //! The cancelled scopes of a tree, in order of their cancellation.
-ghost use Rattle.std.specs.Prelude.{◌≡◌, ℕ, ◌+◌, ◌<◌, ◌≤◌, ◌++◌, ◌∷◌, [], true, false, length, drop, Option, Some, is_ok, OnOk, if◌then◌else◌, cond, IsPermutation, vec_capacity};
-ghost use Rattle.cancel_tree.specs.CancelOrder.{IsOnce, AreRuns, IsGrown};
+ghost use Rattle.std.specs.Prelude.{[], ℕ, ◌++◌, ◌+◌, ◌<◌, ◌∷◌, ◌≡◌, ◌≤◌, IsPermutation, OnOk, Option, Some, cond, drop, false, if◌then◌else◌, is_ok, length, true, vec_capacity};
+ghost use Rattle.cancel_tree.specs.{AreRuns, IsGrown, IsOnce};
 
 use scope_rules::ScopeId;
 use std::alloc::{AllocError, Global};

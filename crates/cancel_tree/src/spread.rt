@@ -1,9 +1,5 @@
-ghost use Rattle.std.specs.Prelude.{◌≡◌, ℕ, ◌-◌, ◌<◌, ◌≤◌, suc, Some, None, length, slice_get, set, cond, vec_capacity};
-ghost use Rattle.scope_rules.specs.Chains.{IsInward};
-ghost use Rattle.cancel_tree.specs.Rows.{outer_of, own_of, IsAdded};
-ghost use Rattle.cancel_tree.specs.Reach.{reached, IsSpread};
-ghost use Rattle.cancel_tree.specs.Columns.{IsLinked};
-ghost use Rattle.cancel_tree.specs.CancelOrder.{IsListOf, IsGrown};
+ghost use Rattle.std.specs.Prelude.{ℕ, ◌-◌, ◌<◌, ◌≡◌, ◌≤◌, None, Some, cond, length, set, slice_get, suc, vec_capacity};
+ghost use Rattle.cancel_tree.specs.{IsAdded, IsGrown, IsInward, IsLinked, IsListOf, IsSpread, outer_of, own_of, reached};
 
 use crate::cancel_order::CancelOrder;
 use crate::rows::{Links, ScopeNode};

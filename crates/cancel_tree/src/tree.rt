@@ -1,16 +1,6 @@
-ghost use Rattle.std.specs.Prelude.{◌≡◌, ℕ, ◌+◌, ◌<◌, ◌≤◌, ◌++◌, ◌∷◌, [], length, is_some, is_ok, IfSome, IfOk, IfErr, OnOk, OnErr, Some, None, if◌then◌else◌, nat_lt, List, drop};
-ghost use Rattle.std.specs.Borrow.{sem};
-ghost use Rattle.scope_rules.specs.declared.types.refusals.Refusal.TheVariants.{TooDeep, Memory};
-ghost use Rattle.std.specs.List.{Contains};
-ghost use Rattle.std.specs.Option.{option_and_then};
-ghost use Rattle.scope_rules.specs.declared.types.capacity.TheConstants.{LEVEL_LIMIT};
-ghost use Rattle.scope_rules.specs.Chains.{IsInward, chain_by, least_on, nearer, onward, sooner};
-ghost use Rattle.scope_rules.specs.Earliest.{IsEarliest};
-ghost use Rattle.cancel_tree.specs.Reach.{is_at_or_before, last_inner};
-ghost use Rattle.cancel_tree.specs.Rows.{IsAdded, IsLatest, cause_of, place_of, cancel_of, own_of, outer_of, deadline_of, effective_of, level_of, level_in, new_row, with_own, with_deadline, changed, cancel_at};
-ghost use Rattle.cancel_tree.specs.Columns.{AreLed};
-ghost use Rattle.cancel_tree.specs.Order.{IsCancelOrder};
-ghost use Rattle.cancel_tree.specs.Lending.{KeepsNodes};
+ghost use Rattle.std.specs.Prelude.{[], ℕ, ◌++◌, ◌+◌, ◌<◌, ◌∷◌, ◌≡◌, ◌≤◌, IfErr, IfOk, IfSome, List, None, OnErr, OnOk, Some, drop, if◌then◌else◌, is_ok, is_some, length, nat_lt};
+ghost use Rattle.cancel_tree.specs.{AreLed, Contains, IsAdded, IsCancelOrder, IsEarliest, IsInward, IsLatest, KeepsNodes, LEVEL_LIMIT, Memory, TooDeep, cancel_at, cancel_of, cause_of, chain_by, changed, deadline_of, effective_of};
+ghost use Rattle.cancel_tree.specs.{is_at_or_before, last_inner, least_on, level_in, level_of, nearer, new_row, onward, option_and_then, outer_of, own_of, place_of, sem, sooner, with_deadline, with_own};
 
 use crate::cancel_order::CancelOrder;
 use crate::rows::{Links, ScopeNode};

@@ -1,2 +1,3 @@
 pub mod TotalsLemmas
 pub mod StandingLemmas
+mod Words

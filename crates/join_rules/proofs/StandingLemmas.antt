@@ -1,12 +1,6 @@
 -- What a progress keeps answers for every list that it stands for.
-use Rattle.std.proofs.Common.{◌≡◌, true, List, [], ◌∷◌, ◌++◌, count_by, length, refl, ap, sym, subst, ◌∙◌}
-use Rattle.std.specs.List.{find}
-use Rattle.scope_rules.specs.declared.types.values.Completion.{Completion}
-use Rattle.scope_rules.specs.declared.types.joiners.Rule.{Rule}
-use Rattle.scope_rules.specs.declared.types.joiners.Policy.TheVariants.{Until}
-use Rattle.scope_rules.specs.Joining.{meets, fires, has_failed, has_succeeded}
-use Rattle.join_rules.specs.Totals.{Totals, totals_of, counted, totals_fire}
-use Rattle.join_rules.specs.JoinerStanding.{JoinerStanding, StandsFor, SameJoiner}
+use Rattle.std.proofs.Common.{[], ◌++◌, ◌∙◌, ◌∷◌, ◌≡◌, List, ap, count_by, length, refl, subst, sym, true}
+use Rattle.join_rules.specs.{Completion, JoinerStanding.JoinerStanding, Rule, SameJoiner, StandsFor, Totals.Totals, Until, counted, find, fires, has_failed, has_succeeded, meets, totals_fire, totals_of}
 use Rattle.join_rules.proofs.TotalsLemmas.{fires_by_totals, totals-push}
 
 -- the kept totals say whether the joiner fires

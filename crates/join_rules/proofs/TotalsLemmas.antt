@@ -1,18 +1,8 @@
 -- The totals of a list say when a joiner fires, and grow with each completion.
-use Rattle.std.proofs.Common.{◌≡◌, ◌+◌, ◌||◌, Bool, true, false, cond, List, [], ◌∷◌, ◌++◌, length, count_by, nat_lt, refl, ap, ◌∙◌, arith}
-use Rattle.std.specs.List.{list_any}
-use Rattle.std.proofs.lemmas.List.Sums.{sum_by_push, sum_by-cons}
-use Rattle.std.proofs.lemmas.List.Folds.{find-append}
-use Rattle.std.proofs.lemmas.List.{length_push}
-use Rattle.std.proofs.lemmas.Bool.Decides.{nat_tests}
-use Rattle.scope_rules.specs.declared.types.values.Completion.{Completion}
-use Rattle.scope_rules.specs.declared.types.joiners.Rule.{Rule}
-use Rattle.scope_rules.specs.declared.types.joiners.Rule.TheVariants.{FailuresAtLeast, SuccessesAtLeast, SumAtLeast}
-use Rattle.scope_rules.specs.declared.types.joiners.Policy.{Policy}
-use Rattle.scope_rules.specs.declared.types.joiners.Policy.TheVariants.{All, Any, AwaitAll, AwaitOk, Until}
-use Rattle.scope_rules.specs.Joining.{has_failed, has_succeeded, meets, fires}
-use Rattle.scope_rules.proofs.Completions.{total_of-push}
-use Rattle.join_rules.specs.Totals.{totals_of, counted, totals_meet, totals_fire}
+use Rattle.std.proofs.Common.{[], ◌++◌, ◌+◌, ◌||◌, ◌∙◌, ◌∷◌, ◌≡◌, Bool, List, ap, arith, cond, count_by, false, length, nat_lt, refl, true}
+use Rattle.scope_rules.specs.declared.types.joiners.Policy.TheVariants.{All}
+use Rattle.join_rules.specs.{Any, AwaitAll, AwaitOk, Completion, FailuresAtLeast, Policy, Rule, SuccessesAtLeast, SumAtLeast, Until, counted, fires, has_failed, has_succeeded, list_any, meets, totals_fire, totals_meet, totals_of}
+use Rattle.join_rules.proofs.Words.{find-append, length_push, nat_tests, sum_by-cons, sum_by_push, total_of-push}
 
 -- some element passes if at least one does
 any_counted : {X : Type 0} (p : X → Bool) (xs : List X) → list_any p xs ≡ nat_lt 0 (count_by p xs)

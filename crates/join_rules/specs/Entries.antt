@@ -1,11 +1,7 @@
 -- The lists of completions that a caller's closure is asked about, and what it has to answer.
-use Rattle.std.specs.Prelude.{◌≡◌, ◌^◌, ◌<◌, ◌≤◌, Bool, List, length, FitsSigned}
-use Rattle.std.specs.Int.{w64}
+use Rattle.std.specs.Prelude.{◌<◌, ◌^◌, ◌≡◌, ◌≤◌, Bool, FitsSigned, List, length}
 use Rattle.std.specs.List.{All}
-use Rattle.scope_rules.specs.declared.types.capacity.TheConstants.{TASK_LIMIT}
-use Rattle.scope_rules.specs.declared.types.values.Completion.{Completion}
-use Rattle.scope_rules.specs.declared.types.joiners.Rule.{Rule}
-use Rattle.scope_rules.specs.Joining.{summand_of_end, meets}
+use Rattle.join_rules.specs.Words.{Completion, Rule, TASK_LIMIT, meets, summand_of_end, w64}
 use denote.Ref.{Bor}
 
 -- the numbers of a completion fit their types

@@ -1,7 +1,6 @@
 -- What a progress keeps of the completions that it was handed, and which lists of them it stands for.
-use Rattle.std.specs.Prelude.{◌≡◌, ℕ, ◌≤◌, Bool, true, List}
-use Rattle.scope_rules.specs.declared.types.values.Completion.{Completion}
-use Rattle.scope_rules.specs.declared.types.joiners.Policy.{Policy}
+use Rattle.std.specs.Prelude.{ℕ, ◌≡◌, ◌≤◌, Bool, List, true}
+use Rattle.join_rules.specs.Words.{Completion, Policy}
 use Rattle.join_rules.specs.Totals.{Totals, totals_of}
 
 pub record JoinerStanding : Type 0 where

@@ -1,12 +1,8 @@
 -- What a joiner of the code stands for.
-use Rattle.std.specs.Prelude.{Bool, true, false}
-use Rattle.scope_rules.specs.declared.types.joiners.Rule.{Rule}
-use Rattle.scope_rules.specs.declared.types.joiners.Policy.{Policy}
+use Rattle.join_rules.specs.Words.{Bool, Policy, Rule, false, true}
+use Rattle.join_rules.specs.declared.{joiners.Joiner.Joiner, joiners.Joiner.TheVariants.All, joiners.Joiner.TheVariants.Any, joiners.Joiner.TheVariants.AwaitAll, joiners.Joiner.TheVariants.AwaitOk}
+use Rattle.join_rules.specs.declared.{joiners.Joiner.TheVariants.Until, until.UntilTest.TheVariants.Closure, until.UntilTest.TheVariants.Plain, until.UntilTest.UntilTest}
 use Rattle.scope_rules.specs.declared.types.joiners.Policy.TheVariants as policy
-use Rattle.join_rules.specs.declared.until.UntilTest.{UntilTest}
-use Rattle.join_rules.specs.declared.until.UntilTest.TheVariants.{Plain, Closure}
-use Rattle.join_rules.specs.declared.joiners.Joiner.{Joiner}
-use Rattle.join_rules.specs.declared.joiners.Joiner.TheVariants.{All, Any, AwaitAll, AwaitOk, Until}
 
 -- the rule that a test agrees with
 abbrev pub rule_of : {g : _} {f : _} {m : _} → UntilTest g f m → Rule

@@ -1,14 +1,7 @@
 -- What a list of completions comes to, as far as the rules ask for it.
-use Rattle.std.specs.Prelude.{ℕ, ◌+◌, ◌*◌, ◌^◌, ◌≤◌, ◌≤ℤ◌, neg_ℤ, pos, Bool, false, List, length, ℤ, ◌+ℤ◌, int_le, nat_le, nat_lt, count_by, Option, Some, None, if◌then◌else◌}
-use Rattle.std.specs.Option.{option_or}
-use Rattle.std.specs.List.{find}
-use Rattle.scope_rules.specs.declared.types.capacity.TheConstants.{TASK_LIMIT}
-use Rattle.scope_rules.specs.declared.types.values.Completion.{Completion}
-use Rattle.scope_rules.specs.declared.types.joiners.Rule.{Rule}
-use Rattle.scope_rules.specs.declared.types.joiners.Rule.TheVariants.{FailuresAtLeast, SuccessesAtLeast, SumAtLeast}
-use Rattle.scope_rules.specs.declared.types.joiners.Policy.{Policy}
-use Rattle.scope_rules.specs.declared.types.joiners.Policy.TheVariants.{All, Any, AwaitAll, AwaitOk, Until}
-use Rattle.scope_rules.specs.Joining.{has_failed, has_succeeded, summand_of_end, total_of}
+use Rattle.std.specs.Prelude.{ℕ, ℤ, ◌*◌, ◌+ℤ◌, ◌+◌, ◌^◌, ◌≤ℤ◌, ◌≤◌, Bool, List, None, Option, Some, count_by, false, if◌then◌else◌, int_le, length, nat_le, nat_lt, neg_ℤ, pos}
+use Rattle.scope_rules.specs.declared.types.joiners.Policy.TheVariants.{All}
+use Rattle.join_rules.specs.Words.{Any, AwaitAll, AwaitOk, Completion, FailuresAtLeast, Policy, Rule, SuccessesAtLeast, SumAtLeast, TASK_LIMIT, Until, find, has_failed, has_succeeded, option_or, summand_of_end, total_of}
 
 pub record Totals : Type 0 where
   pub completions : ℕ

@@ -1,11 +1,5 @@
-ghost use Rattle.std.specs.Prelude.{◌≡◌, ◌+◌, ◌<◌, ◌≤◌, ◌∷◌, [], ◌++◌, OnOk, OnErr, IsOk, true, false, if◌then◌else◌, is_ok, ◌&&◌, vec_len, List};
-ghost use Rattle.scope_rules.specs.declared.types.capacity.TheConstants.{TASK_LIMIT};
-ghost use Rattle.std.specs.Vec.{vec_capacity};
-ghost use Rattle.join_rules.specs.Totals.{counted, totals_of, totals_fire};
-ghost use Rattle.join_rules.specs.Entries.{MayBeAsked};
-ghost use Rattle.scope_rules.specs.Joining.{fires};
-ghost use Rattle.scope_rules.specs.declared.types.values.Completion.{Completion};
-ghost use Rattle.join_rules.specs.JoinerStanding.{StandsFor, HasRoom, SameJoiner, SameButRoom};
+ghost use Rattle.std.specs.Prelude.{[], ◌&&◌, ◌++◌, ◌+◌, ◌<◌, ◌∷◌, ◌≡◌, ◌≤◌, IsOk, List, OnErr, OnOk, false, if◌then◌else◌, is_ok, true, vec_len};
+ghost use Rattle.join_rules.specs.{Completion, HasRoom, MayBeAsked, SameButRoom, SameJoiner, StandsFor, TASK_LIMIT, counted, fires, totals_fire, totals_of, vec_capacity};
 
 use crate::tally::Tally;
 use crate::until::StoredTest;

@@ -1,12 +1,6 @@
-ghost use Rattle.std.specs.Prelude.{◌≡◌, ◌+◌, ◌<◌, ◌≤◌, List, ◌∷◌, [], ◌++◌, IfOk, OnOk, OnErr, IsOk, true, false, ℕ, is_some, count_by, length};
-ghost use Rattle.scope_rules.specs.declared.types.capacity.TheConstants.{TASK_LIMIT};
-ghost use Rattle.std.specs.List.{find};
-ghost use Rattle.std.specs.Option.{ForSome};
-ghost use Rattle.scope_rules.specs.Joining.{fires, has_failed, has_succeeded};
-ghost use Rattle.scope_rules.specs.declared.types.values.Completion.{Completion};
-ghost use Rattle.scope_rules.specs.declared.types.joiners.Policy.TheVariants.{Until};
-ghost use Rattle.join_rules.specs.JoinerStanding.{StandsFor, HasRoom, SameJoiner, SameButRoom};
-ghost use Rattle.join_rules.specs.Joiners.{policy_of, asks_closure};
+ghost use Rattle.std.specs.Prelude.{[], ℕ, ◌++◌, ◌+◌, ◌<◌, ◌∷◌, ◌≡◌, ◌≤◌, IfOk, IsOk, List, OnErr, OnOk, count_by, false, is_some, length, true};
+ghost use Rattle.join_rules.specs.Words.{Completion, ForSome, TASK_LIMIT, Until, find, fires, has_failed, has_succeeded};
+ghost use Rattle.join_rules.specs.{JoinerStanding.HasRoom, JoinerStanding.SameButRoom, JoinerStanding.SameJoiner, JoinerStanding.StandsFor, Joiners.asks_closure, Joiners.policy_of};
 
 use crate::account::JoinerAccount;
 use crate::joiners::Joiner;

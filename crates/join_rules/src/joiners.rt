@@ -1,5 +1,5 @@
 ghost use Rattle.std.specs.Prelude.{◌≡◌, true};
-ghost use Rattle.scope_rules.specs.declared.types.joiners.Policy.TheVariants.{Until};
+ghost use Rattle.join_rules.specs.{Until};
 
 use crate::until::{StoredTest, UntilTest};
 use scope_rules::Policy;

@@ -1,8 +1,5 @@
-ghost use Rattle.std.specs.Prelude.{◌≡◌, ◌<◌, []};
-ghost use Rattle.scope_rules.specs.declared.types.capacity.TheConstants.{TASK_LIMIT};
-ghost use Rattle.join_rules.specs.Totals.{counted, totals_meet, totals_of};
-ghost use Rattle.scope_rules.specs.Joining.{summand_of_end};
-ghost use Rattle.join_rules.specs.Entries.{EntryFits};
+ghost use Rattle.std.specs.Prelude.{[], ◌<◌, ◌≡◌};
+ghost use Rattle.join_rules.specs.{EntryFits, TASK_LIMIT, counted, summand_of_end, totals_meet, totals_of};
 
 use scope_rules::{Completion, End, Rule, Value};
 use std::marker::Model;

@@ -1,6 +1,6 @@
-ghost use Rattle.std.specs.Prelude.{◌≡◌, true, false};
-ghost use Rattle.scope_rules.specs.Joining.{meets};
-ghost use Rattle.join_rules.specs.Entries.{MayBeAsked, AgreesWith, IsCallableOnShown};
+ghost use Rattle.std.specs.Prelude.{◌≡◌, false, true};
+ghost use Rattle.join_rules.specs.Words.{meets};
+ghost use Rattle.join_rules.specs.Entries.{AgreesWith, IsCallableOnShown, MayBeAsked};
 
 use scope_rules::{Completion, Rule};
 

@@ -1,11 +1,7 @@
 -- The first places, one event after the other.
-use Rattle.std.proofs.Common.{◌≡◌, ℕ, ◌+◌, ◌==◌, ◌&&◌, true, false, cond, if◌then◌else◌, Option, Some, None, List, slice_get, refl, ap, sym, ◌∙◌}
-use Rattle.std.specs.Option.{option_and_then, option_map_or, option_or}
-use Rattle.scope_rules.specs.declared.types.events.Event.{Event}
-use Rattle.scope_rules.specs.Search.{earliest}
-use Rattle.scope_rules.proofs.Searching.{earliest_more}
-use Rattle.run_times.specs.declared.landmarks.Landmark.{Landmark}
-use Rattle.run_times.specs.Landmarks.{named, is_named, named_at, noted_in}
+use Rattle.std.proofs.Common.{ℕ, ◌&&◌, ◌+◌, ◌==◌, ◌∙◌, ◌≡◌, List, None, Option, Some, ap, cond, false, if◌then◌else◌, refl, slice_get, sym, true}
+use Rattle.run_times.specs.{Event, Landmark, earliest, is_named, named, named_at, noted_in, option_and_then, option_map_or, option_or}
+use Rattle.run_times.proofs.Words.{earliest_more}
 
 -- what is found so far, and what the next event adds
 noted_is : (before place k : ℕ) (number old : Option ℕ) → noted_in before number place k old ≡ option_or old (if option_map_or (λ m. m == before + 1 + k) number false then Some place else None)

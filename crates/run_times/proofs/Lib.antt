@@ -1,3 +1,4 @@
 mod Landed
 pub mod Placed
 mod Stamped
+mod Words

@@ -1,29 +1,11 @@
 -- The first place at which something is so, by the tests of the rules; and the places that are kept.
-use Rattle.std.proofs.Common.{◌≡◌, ℕ, zero, suc, ◌+◌, ◌-◌, ◌<◌, ◌≤◌, ◌==◌, ◌||◌, Bool, true, false, cond, nat_lt, is_some, Option, Some, None, List, [], ◌∷◌, length, get_or, take, slice_get, refl, ap, sym, ◌∙◌, arith, inl, inr, add-one, subst}
-use Rattle.std.proofs.lemmas.Bool.{eqb-true, lt-ltb, le-ltb}
-use Rattle.std.proofs.lemmas.List.{take_all}
-use Rattle.std.proofs.lemmas.Option.{slice_get_cases}
-use Rattle.std.specs.List.{list_any}
-use Rattle.std.specs.Option.{option_and_then, option_map_or, option_or}
-use Rattle.scope_rules.specs.declared.types.events.Event.{Event}
+use Rattle.std.proofs.Common.{[], ℕ, ◌+◌, ◌-◌, ◌<◌, ◌==◌, ◌||◌, ◌∙◌, ◌∷◌, ◌≡◌, ◌≤◌, Bool, List, None, Option, Some, add-one, ap, arith, cond, false, get_or, inl, inr, is_some, length, nat_lt, refl, slice_get, subst, suc, sym}
+use Rattle.std.proofs.Common.{take, true, zero}
+use Rattle.run_times.specs.{Event, Firsts, Forking, HasFirsts, History, Landmark, Opening, before, closed, earliest, ends, finished, finishes, first_place, forked_count, forking, is_named, list_any, named_at, opened_count}
+use Rattle.run_times.specs.{opening, option_and_then, option_map_or, option_or, rejected, rejects, started, starts}
+use Rattle.run_times.proofs.Words.{and_then_some, earliest_more, earliest_where, eqb-true, forking_number, if_some, le-ltb, list_any-push, lt-ltb, opened_after, slice_get_cases, take_all, take_at, task_given}
 use Rattle.scope_rules.specs.declared.types.events.Event.TheVariants as event
-use Rattle.scope_rules.specs.declared.types.records.Forking.{Forking}
-use Rattle.scope_rules.specs.declared.types.records.Opening.{Opening}
-use Rattle.scope_rules.specs.History.{History, before, forked_count, forking, opened_count, opening}
-use Rattle.scope_rules.specs.Scopes.{closed, ends}
-use Rattle.scope_rules.specs.Search.{earliest}
-use Rattle.scope_rules.specs.Tasks.{finished, finishes, rejected, rejects, started, starts}
-use Rattle.scope_rules.proofs.Earlier.{task_given}
-use Rattle.scope_rules.proofs.Growing.{forking_number}
-use Rattle.scope_rules.proofs.Innermosts.{opened_after}
-use Rattle.scope_rules.proofs.Numbers.{list_any-push}
-use Rattle.scope_rules.proofs.Openings.{and_then_some, if_some}
-use Rattle.scope_rules.proofs.Prefixes.{take_at}
-use Rattle.scope_rules.proofs.Searching.{earliest_more, earliest_where}
-use Rattle.run_times.specs.declared.landmarks.Firsts.{Firsts}
-use Rattle.run_times.specs.declared.landmarks.Landmark.{Landmark}
 use Rattle.run_times.specs.declared.landmarks.Landmark.TheVariants as landmark
-use Rattle.run_times.specs.Landmarks.{HasFirsts, first_place, is_named, named_at}
 
 some_or : (o p : Option ℕ) → is_some (option_or o p) ≡ (is_some o || is_some p)
 some_or None p = refl

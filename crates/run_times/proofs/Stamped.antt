@@ -1,16 +1,10 @@
 -- The readings by number, one number after the other; and whose they are.
-use Rattle.std.proofs.Common.{◌≡◌, ℕ, ◌+◌, true, is_some, Option, Some, None, List, [], ◌∷◌, ◌++◌, slice_get, refl, ap, ◌∙◌, arith}
-use Rattle.std.proofs.lemmas.List.FromFn.{map-range_with_len_more}
-use Rattle.std.specs.Option.{option_map_or}
-use Rattle.scope_rules.specs.declared.types.events.Event.{Event}
-use Rattle.scope_rules.specs.declared.types.records.Forking.{Forking}
-use Rattle.scope_rules.specs.declared.types.records.Opening.{Opening}
-use Rattle.scope_rules.specs.History.{History, forking}
-use Rattle.run_times.specs.declared.landmarks.Landmark.TheVariants as landmark
-use Rattle.run_times.specs.declared.landmarks.Landmark.{Landmark}
-use Rattle.run_times.specs.Landmarks.{first_place, is_named}
-use Rattle.run_times.specs.Stamps.{EachEndTimeIsItsOwn, EachForkTimeIsItsOwn, EachOpenTimeIsItsOwn, EachStartTimeIsItsOwn, fork_time, forks_to, open_time, opens_to, reading_at, task_time, tasks_to}
+use Rattle.std.proofs.Common.{[], ℕ, ◌++◌, ◌+◌, ◌∙◌, ◌∷◌, ◌≡◌, List, None, Option, Some, ap, arith, is_some, refl, slice_get, true}
+use Rattle.run_times.specs.{EachEndTimeIsItsOwn, EachForkTimeIsItsOwn, EachOpenTimeIsItsOwn, EachStartTimeIsItsOwn, Event, Forking, History, Landmark, Opening, first_place, fork_time, forking, forks_to, is_named, open_time}
+use Rattle.run_times.specs.{opens_to, option_map_or, reading_at, task_time, tasks_to}
+use Rattle.run_times.proofs.Words.{map-range_with_len_more}
 use Rattle.run_times.proofs.Placed.{ended_is, ended_named, placed, start_is, started_is}
+use Rattle.run_times.specs.declared.landmarks.Landmark.TheVariants as landmark
 
 pub tasks_none : (mark : Landmark) (h : History) (times : List ℕ) → tasks_to mark h times 0 ≡ []
 unfolding tasks_to

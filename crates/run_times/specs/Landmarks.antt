@@ -1,11 +1,7 @@
 -- Where something happened first to a scope or a task.
-use Rattle.std.specs.Prelude.{◌≡◌, ℕ, ◌+◌, ◌<◌, ◌==◌, ◌&&◌, Bool, false, Option, None, Some, is_none, List, length, get_or, slice_get, if◌then◌else◌}
-use Rattle.std.specs.Option.{option_and_then, option_map_or}
-use Rattle.scope_rules.specs.declared.types.events.Event.{Event}
+use Rattle.std.specs.Prelude.{ℕ, ◌&&◌, ◌+◌, ◌<◌, ◌==◌, ◌≡◌, Bool, List, None, Option, Some, false, get_or, if◌then◌else◌, is_none, length, slice_get}
+use Rattle.run_times.specs.Words.{Event, Firsts, Landmark, earliest, option_and_then, option_map_or}
 use Rattle.scope_rules.specs.declared.types.events.Event.TheVariants as event
-use Rattle.scope_rules.specs.Search.{earliest}
-use Rattle.run_times.specs.declared.landmarks.Firsts.{Firsts}
-use Rattle.run_times.specs.declared.landmarks.Landmark.{Landmark}
 use Rattle.run_times.specs.declared.landmarks.Landmark.TheVariants as landmark
 
 -- the number of the scope or the task to which the event is this

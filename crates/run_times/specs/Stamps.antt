@@ -1,16 +1,9 @@
 -- The readings of a clock by task and by scope.
-use Rattle.std.specs.Prelude.{◌≡◌, ℕ, ◌+◌, ◌||◌, true, Some, List, map, get_or, slice_get}
-use Rattle.std.specs.List.{range_with_len}
-use Rattle.std.specs.Option.{option_map_or}
-use Rattle.scope_rules.specs.declared.types.events.Event.{Event}
-use Rattle.scope_rules.specs.declared.types.events.Event.TheVariants as event
-use Rattle.scope_rules.specs.declared.types.records.Forking.{Forking}
-use Rattle.scope_rules.specs.declared.types.records.Opening.{Opening}
-use Rattle.scope_rules.specs.History.{History, forked_count, forking, opened_count, opening}
-use Rattle.scope_rules.specs.Tasks.{finished, finishes, rejected, rejects, started}
-use Rattle.run_times.specs.declared.landmarks.Landmark.{Landmark}
-use Rattle.run_times.specs.declared.landmarks.Landmark.TheVariants as landmark
+use Rattle.std.specs.Prelude.{ℕ, ◌+◌, ◌||◌, ◌≡◌, List, Some, get_or, map, slice_get, true}
+use Rattle.run_times.specs.Words.{Event, Forking, History, Landmark, Opening, finished, finishes, forked_count, forking, opened_count, opening, option_map_or, range_with_len, rejected, rejects, started}
 use Rattle.run_times.specs.Landmarks.{first_place}
+use Rattle.scope_rules.specs.declared.types.events.Event.TheVariants as event
+use Rattle.run_times.specs.declared.landmarks.Landmark.TheVariants as landmark
 
 -- the reading at the place, or 0, if there is none
 abbrev pub reading_at : List ℕ → ℕ → ℕ

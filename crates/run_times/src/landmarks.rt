@@ -1,6 +1,6 @@
 //! Where something happened first to each scope or each task: one pass over the events for all of them.
-ghost use Rattle.std.specs.Prelude.{◌≡◌, ◌+◌, ◌<◌, ℕ, IfOk, get_or, length};
-ghost use Rattle.run_times.specs.Landmarks.{HasFirsts, IsUnnoted, named, noted_in};
+ghost use Rattle.std.specs.Prelude.{ℕ, ◌+◌, ◌<◌, ◌≡◌, IfOk, get_or, length};
+ghost use Rattle.run_times.specs.{HasFirsts, IsUnnoted, named, noted_in};
 
 use scope_rules::Event;
 use std::alloc::{AllocError, Global};

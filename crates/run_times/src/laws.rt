@@ -1,5 +1,5 @@
 //! Laws of times. The function does nothing: its contract is the laws.
-ghost use Rattle.run_times.specs.Stamps.{EachEndTimeIsItsOwn, EachForkTimeIsItsOwn, EachOpenTimeIsItsOwn, EachStartTimeIsItsOwn};
+ghost use Rattle.run_times.specs.{EachEndTimeIsItsOwn, EachForkTimeIsItsOwn, EachOpenTimeIsItsOwn, EachStartTimeIsItsOwn};
 
 /// The reading of a task's start is that of the event by which this task started, and the reading of its end that of an
 /// event by which it finished or was rejected. The reading of its fork is that of its own fork, and the reading of a

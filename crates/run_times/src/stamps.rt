@@ -1,8 +1,6 @@
 //! The readings of a clock by task and by scope.
 ghost use Rattle.std.specs.Prelude.{◌≡◌, IfOk};
-ghost use Rattle.scope_rules.specs.History.{forked_count};
-ghost use Rattle.run_times.specs.Landmarks.{HasFirsts};
-ghost use Rattle.run_times.specs.Stamps.{end_times, fork_time, fork_times, open_time, open_times, reading_at, start_times, task_time, tasks_to};
+ghost use Rattle.run_times.specs.{HasFirsts, end_times, fork_time, fork_times, forked_count, open_time, open_times, reading_at, start_times, task_time, tasks_to};
 
 use crate::landmarks::{Firsts, Landmark, firsts_of};
 use crate::turns::reached_at;

@@ -1,8 +1,7 @@
 //! Where a task or a scope began and ended, by the places that are kept.
-ghost use Rattle.std.specs.Prelude.{◌≡◌, true, is_some};
-ghost use Rattle.scope_rules.specs.History.{forked_count, forking, opened_count, opening};
+ghost use Rattle.std.specs.Prelude.{◌≡◌, is_some, true};
+ghost use Rattle.run_times.specs.{HasFirsts, first_place, forked_count, forking, opened_count, opening};
 ghost use Rattle.run_times.specs.declared.landmarks.Landmark.TheVariants as mark;
-ghost use Rattle.run_times.specs.Landmarks.{HasFirsts, first_place};
 
 use crate::landmarks::{Firsts, Landmark};
 use scope_checks::Readings;

@@ -1,13 +1,7 @@
 -- A scope that was opened since the base, and a task that was forked since, pass the checks of their numbers.
-use Rattle.std.proofs.Common.{◌≡◌, ℕ, ◌<◌, ◌&&◌, Bool, true, false, cond, not, is_some, nat_lt, nat_le, Some, Ok, Err, refl, ap, sym, ◌∙◌, arith}
-use Rattle.std.proofs.lemmas.Bool.{lt-leb}
-use Rattle.scope_rules.specs.declared.types.refusals.Refusal.TheVariants.{NoScope, NoTask, Retired}
-use Rattle.scope_rules.specs.declared.types.records.Opening.{Opening}
-use Rattle.scope_rules.specs.declared.types.records.Forking.{Forking}
-use Rattle.scope_rules.specs.History.{History, opening, forking}
-use Rattle.scope_rules.specs.Checks.{refuse_if, scope_check, task_check, known_scope, known_task}
-use Rattle.scope_rules.proofs.Innermosts.{opened_after}
-use Rattle.scope_rules.proofs.Forkings.{forked_after}
+use Rattle.std.proofs.Common.{ℕ, ◌&&◌, ◌<◌, ◌∙◌, ◌≡◌, Bool, Err, Ok, Some, ap, arith, cond, false, is_some, nat_le, nat_lt, not, refl, sym, true}
+use Rattle.scope_checks.specs.{Forking, History, NoScope, NoTask, Opening, Retired, forking, known_scope, known_task, opening, refuse_if, scope_check, task_check}
+use Rattle.scope_checks.proofs.Words.{forked_after, lt-leb, opened_after}
 
 not_retired : (n b : ℕ) → b < n → (nat_lt 0 n && nat_le n b) ≡ false
 not_retired n b after = ap (λ x. nat_lt 0 n && x) (lt-leb n b after) ∙ by (nat_lt 0 n)

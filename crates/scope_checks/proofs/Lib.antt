@@ -1,3 +1,4 @@
 pub mod Remade
 pub mod PassedReadings
 pub mod Checked
+mod Words

@@ -1,22 +1,8 @@
 -- What readings of a legal history may go by, once the checks that come before them have passed: numbers
 -- that were given, and heights of stacks in place of their pairs.
-use Rattle.std.proofs.Common.{◌≡◌, ℕ, ◌==◌, true, Option, Some, None, length, refl, ap, sym, subst, ◌∙◌, inl, inr, ◌⊎◌}
-use Rattle.std.specs.Option.{option_map_or}
-use Rattle.scope_rules.specs.declared.types.answers.Stage.TheVariants.{Never}
-use Rattle.scope_rules.specs.declared.types.capacity.Limits.{Limits}
-use Rattle.scope_rules.specs.declared.types.records.Forking.{Forking}
-use Rattle.scope_rules.specs.declared.types.records.Opening.{Opening}
-use Rattle.scope_rules.specs.History.{History, opening, forking}
-use Rattle.scope_rules.specs.Tasks.{stage, stage_of, is_running}
-use Rattle.scope_rules.specs.Bindings.{stack, bound_as_opened}
-use Rattle.scope_rules.specs.Checks.{actor_check, owner_check, refuse_closing}
-use Rattle.scope_rules.specs.Legal.{Legal}
-use Rattle.scope_rules.proofs.Accepted.{not_refused}
-use Rattle.scope_rules.proofs.BindingRows.{IsForked}
-use Rattle.scope_rules.proofs.Bound.{stack_then, bound_by_height, some_same}
-use Rattle.scope_rules.proofs.ClosingOwners.{live_is_unclosed}
-use Rattle.scope_rules.proofs.PassedRows.{IsActor, actor_passed, owner_passed}
-use Rattle.scope_checks.specs.Passes.{Passes}
+use Rattle.std.proofs.Common.{ℕ, ◌==◌, ◌∙◌, ◌≡◌, ◌⊎◌, None, Option, Some, ap, inl, inr, length, refl, subst, sym, true}
+use Rattle.scope_checks.specs.{Forking, History, Legal, Limits, Never, Opening, Passes.Passes, actor_check, bound_as_opened, forking, is_running, opening, option_map_or, owner_check, refuse_closing, stack, stage, stage_of}
+use Rattle.scope_checks.proofs.Words.{IsActor, IsForked, actor_passed, bound_by_height, live_is_unclosed, not_refused, owner_passed, some_same, stack_then}
 
 forked_by : (h : History) (k : ℕ) (f : Option Forking) → forking h k ≡ f → is_running (option_map_or (stage_of h k) f Never) ≡ true → IsForked h k
 forked_by h k None is runs = absurd cc

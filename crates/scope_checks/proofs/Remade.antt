@@ -1,19 +1,10 @@
 -- Which check fails is one, whatever is made of it.
-use Rattle.std.proofs.Common.{◌≡◌, ℕ, ◌==◌, ◌&&◌, Bool, true, false, not, cond, is_some, nat_le, nat_lt, Ok, Err, List, [], ◌∷◌, length, refl, ap, sym, ◌∙◌}
-use Rattle.scope_rules.specs.declared.types.capacity.Limits.{Limits}
-use Rattle.scope_rules.specs.declared.types.capacity.TheConstants.{LEVEL_LIMIT, OPEN_LOAD, FORK_LOAD, STEP_LOAD}
-use Rattle.scope_rules.specs.declared.types.checks.Failed.{Failed}
+use Rattle.std.proofs.Common.{[], ℕ, ◌&&◌, ◌==◌, ◌∙◌, ◌∷◌, ◌≡◌, Bool, Err, List, Ok, ap, cond, false, is_some, length, nat_le, nat_lt, not, refl, sym, true}
+use Rattle.scope_checks.specs.{BeginClose, Bind, Cancel, Checked, EndClose, Event, FORK_LOAD, Failed, Finish, Fork, History, Join, LEVEL_LIMIT, Limits, Move, OPEN_LOAD, Open, Reject, STEP_LOAD, Start, Tick, Tried, Unbind}
+use Rattle.scope_checks.specs.{actor_check, bound_as_opened, check_of, checks, closed, closing, forking, holds_last, in_closing, innermost, is_cancelled, is_innermost, is_running, is_waiting, joined, known_actor, known_scope}
+use Rattle.scope_checks.specs.{known_task, load_fits, moment, next_level, not_closing, not_joined, opening, over_load, over_scopes, over_tasks, owned, owns, owns_task, reading_row, ready, refusal_of, refuse_if, remade, retire_row}
+use Rattle.scope_checks.specs.{row_check, rows, scope_check, settled, stack, stage, task_check, task_joined, then_check, until_row}
 use Rattle.scope_rules.specs.declared.types.checks.Failed.TheVariants as failed
-use Rattle.scope_rules.specs.declared.types.events.Event.{Event}
-use Rattle.scope_rules.specs.declared.types.events.Event.TheVariants.{Open, Fork, Reject, Start, Finish, Cancel, Move, Tick, Bind, Unbind, Join, BeginClose, EndClose}
-use Rattle.scope_rules.specs.Bindings.{stack, bound_as_opened, holds_last}
-use Rattle.scope_rules.specs.Cancels.{is_cancelled}
-use Rattle.scope_rules.specs.Checks.{Tried, Checked, remade, refusal_of, refuse_if, then_check, checks, known_scope, known_task, known_actor, scope_check, task_check, actor_check, owns, owned, not_closing, not_joined, load_fits, in_closing, is_innermost}
-use Rattle.scope_rules.specs.History.{History, opening, forking, moment}
-use Rattle.scope_rules.specs.Load.{over_load, over_scopes, over_tasks}
-use Rattle.scope_rules.specs.Scopes.{joined, closed, closing, innermost, next_level}
-use Rattle.scope_rules.specs.Table.{rows, row_check, check_of, retire_row, reading_row, until_row, owns_task, task_joined}
-use Rattle.scope_rules.specs.Tasks.{stage, is_running, is_waiting, ready, settled}
 
 -- what passes if one thing is made of a failure passes if another is
 pub passes_too : {F G : Type 0} (g : F → G) (x : Tried F) → remade g x ≡ Ok tt → x ≡ Ok tt

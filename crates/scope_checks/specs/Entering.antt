@@ -1,13 +1,6 @@
 -- What a command does to a realm, said in one fact: what it answers by its row of the table, and what it leaves.
-use Rattle.std.specs.Prelude.{◌≡◌, ℕ, true, Result}
-use Rattle.scope_rules.specs.declared.types.events.Event.{Event}
-use Rattle.scope_rules.specs.declared.types.refusals.Refusal.{Refusal}
-use Rattle.scope_rules.specs.declared.types.answers.Cancelling.{Cancelling}
-use Rattle.scope_rules.specs.declared.types.answers.Cancelling.TheVariants.{Already}
-use Rattle.scope_rules.specs.Origin.{Origin}
-use Rattle.scope_rules.specs.Table.{check_of, is_already, retire_check}
-use Rattle.scope_rules.specs.Replies.{Realm, Answers, AnswersOrMemory, after, after_recording, after_retiring, recording, base_of}
-use Rattle.scope_checks.specs.declared.event_replies.EventReply.{EventReply}
+use Rattle.std.specs.Prelude.{ℕ, ◌≡◌, Result, true}
+use Rattle.scope_checks.specs.Words.{Already, Answers, AnswersOrMemory, Cancelling, Event, EventReply, Origin, Realm, Refusal, after, after_recording, after_retiring, base_of, check_of, is_already, recording, retire_check}
 use Rattle.scope_checks.specs.EventReplies.{Performs, after_telling}
 
 -- it answers the value and adds its event, or it is refused what the check refuses and adds nothing

@@ -1,19 +1,8 @@
 -- What is told where a command is performed, and what that leaves: said of every event at once.
-use Rattle.std.specs.Prelude.{◌≡◌, ◌==◌, ◌&&◌, ◌⊎◌, Bool, true, false, not, Result, Ok, Err, if◌then◌else◌}
-use Rattle.scope_rules.specs.declared.types.capacity.Limits.{Limits}
-use Rattle.scope_rules.specs.declared.types.events.Event.{Event}
-use Rattle.scope_rules.specs.declared.types.events.Event.TheVariants.{Open, Fork, Cancel, BeginClose, EndClose}
-use Rattle.scope_rules.specs.declared.types.refusals.Refusal.{Refusal}
-use Rattle.scope_rules.specs.declared.types.refusals.Refusal.TheVariants.{Memory}
-use Rattle.scope_rules.specs.declared.types.answers.Cancelling.{Cancelling}
+use Rattle.std.specs.Prelude.{◌&&◌, ◌==◌, ◌≡◌, ◌⊎◌, Bool, Err, Ok, Result, false, if◌then◌else◌, not, true}
+use Rattle.scope_checks.specs.Words.{BeginClose, Cancel, Cancelling, Checked, EndClose, Event, EventReply, Fork, History, Limits, Memory, Open, Realm, Refusal, check_of, fork_reply, is_already, next_scope, verdict, weight}
+use Rattle.scope_checks.specs.Words.{with_event}
 use Rattle.scope_rules.specs.declared.types.answers.Cancelling.TheVariants as cancelling
-use Rattle.scope_rules.specs.Checks.{Checked}
-use Rattle.scope_rules.specs.History.{History}
-use Rattle.scope_rules.specs.Load.{weight}
-use Rattle.scope_rules.specs.Table.{check_of, is_already}
-use Rattle.scope_rules.specs.Verdicts.{verdict}
-use Rattle.scope_rules.specs.Replies.{Realm, with_event, next_scope, fork_reply}
-use Rattle.scope_checks.specs.declared.event_replies.EventReply.{EventReply}
 use Rattle.scope_checks.specs.declared.event_replies.EventReply.TheVariants as reply
 
 -- whether all was so already

@@ -1,8 +1,6 @@
 -- What is said of a realm with its limits.
 use Rattle.std.specs.Prelude.{◌≡◌}
-use Rattle.scope_rules.specs.declared.types.capacity.Limits.{Limits}
-use Rattle.scope_rules.specs.Legal.{Legal, IsWithin}
-use Rattle.scope_rules.specs.Replies.{Realm}
+use Rattle.scope_checks.specs.Words.{IsWithin, Legal, Limits, Realm}
 
 -- the limits are the realm's, and its history is legal and within them, the base's load and numbers counted
 pub record IsRuled (realm : Realm) (L : Limits) : Type 0 where

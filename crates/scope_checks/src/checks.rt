@@ -1,9 +1,8 @@
 //! The checks, of which the table has rows: each passes, or gives what is made of it where it fails.
 
 ghost use Rattle.std.specs.Prelude.{◌≡◌, OnOk};
-ghost use Rattle.scope_checks.specs.Passes.{Passes};
-ghost use Rattle.scope_rules.specs.Tasks.{stage, is_running, ready};
-ghost use Rattle.scope_rules.specs.Checks.{refuse_if, known_scope, known_task, known_actor, scope_check, task_check, actor_check, owns, owned, owner_check, not_closing, refuse_closing, not_joined, load_fits, in_closing, is_innermost};
+ghost use Rattle.scope_checks.specs.{Passes.Passes, actor_check, in_closing, is_innermost, is_running, known_actor, known_scope, known_task, load_fits, not_closing, not_joined, owned, owner_check, owns, ready, refuse_closing};
+ghost use Rattle.scope_checks.specs.{refuse_if, scope_check, stage, task_check};
 
 use crate::failures::FromFailed;
 use crate::load::over_load;

@@ -1,7 +1,7 @@
 //! What is answered if a command is performed: one answer for every command.
 
 ghost use Rattle.std.specs.Prelude.{◌≡◌};
-ghost use Rattle.scope_checks.specs.EventReplies.{noting, records};
+ghost use Rattle.scope_checks.specs.{noting, records};
 
 use scope_rules::types::answers::{Cancelling, ForkReply, Verdict};
 use scope_rules::types::refusals::Refusal;

@@ -1,7 +1,7 @@
 //! What is made of a check that fails: its refusal, or the check itself for who explains it.
 
 ghost use Rattle.std.specs.Prelude.{◌≡◌};
-ghost use Rattle.scope_rules.specs.Checks.{refusal_of};
+ghost use Rattle.scope_checks.specs.{refusal_of};
 
 use scope_rules::Failed;
 use scope_rules::types::refusals::Refusal;

@@ -1,7 +1,7 @@
 //! Whether one more scope, one more task or so much load more would pass a limit.
 
 ghost use Rattle.std.specs.Prelude.{◌≡◌};
-ghost use Rattle.scope_rules.specs.Load.{over_load, over_scopes, over_tasks};
+ghost use Rattle.scope_checks.specs.{over_load, over_scopes, over_tasks};
 
 use crate::readings::Readings;
 use scope_rules::types::capacity::{GREATEST_NUMBER, Limits};

@@ -1,16 +1,9 @@
 //! Every query of a realm, once: what it is refused for, and what it answers. None of them
 //! changes anything.
 
-ghost use Rattle.std.specs.Prelude.{◌≡◌, ℕ, OnOk, Some, max, option_map};
-ghost use Rattle.scope_rules.specs.Cancels.{cause, cancelled_at, effective};
-ghost use Rattle.scope_rules.specs.Checks.{checks, scope_check, task_check};
-ghost use Rattle.scope_rules.specs.Nests.{inner_reply, task_inner_reply, task_at_reply, label_reply, info, info_reply, scope_stage};
-ghost use Rattle.scope_rules.specs.Outcomes.{outcome};
-ghost use Rattle.scope_rules.specs.Replies.{AnswersValue, result_reply, fault_reply, binding_reply, outcome_check};
-ghost use Rattle.scope_rules.specs.Table.{answering, owns_task, task_joined, reading_row, reading_check, until_row, until_check};
-ghost use Rattle.scope_rules.specs.Tasks.{stage, state, counts};
-ghost use Rattle.scope_checks.specs.Passes.{Passes};
-ghost use Rattle.scope_checks.specs.Queries.{cancellation};
+ghost use Rattle.std.specs.Prelude.{ℕ, ◌≡◌, OnOk, Some, max, option_map};
+ghost use Rattle.scope_checks.specs.{AnswersValue, Passes.Passes, answering, binding_reply, cancellation, cancelled_at, cause, checks, counts, effective, fault_reply, info, info_reply, inner_reply, label_reply, outcome};
+ghost use Rattle.scope_checks.specs.{outcome_check, owns_task, reading_check, reading_row, result_reply, scope_check, scope_stage, stage, state, task_at_reply, task_check, task_inner_reply, task_joined, until_check, until_row};
 
 use crate::checks::{
     actor_check, fail_if, known_actor, known_scope, known_task, owns, refuse_if, scope_check,

@@ -1,18 +1,9 @@
 //! What checks and queries ask of a history, however its answers are kept.
 
-ghost use Rattle.std.specs.Prelude.{◌≡◌, Some, IfOk, IsSome, length, slice_get};
-ghost use Rattle.scope_rules.specs.History.{moment, opening, forking, scopes, tasks};
-ghost use Rattle.scope_rules.specs.Load.{load};
-ghost use Rattle.scope_rules.specs.Scopes.{joined, closed, innermost, next_level, closing, forked_in};
-ghost use Rattle.scope_rules.specs.Cancels.{is_cancelled, first_cancel, deadline, effective};
-ghost use Rattle.scope_rules.specs.Tasks.{stage, state, settled, counts};
-ghost use Rattle.scope_rules.specs.Outcomes.{outcome};
-ghost use Rattle.scope_rules.specs.Verdicts.{verdict};
-ghost use Rattle.scope_rules.specs.Nests.{outermost, inner, tasks_of};
-ghost use Rattle.scope_rules.specs.Bindings.{stack, bindings, bound_to, bound_as_opened, holds_last};
-ghost use Rattle.scope_rules.specs.Checks.{scope_check, task_check, actor_check, owner_check, refuse_closing};
-ghost use Rattle.scope_rules.specs.Replies.{outcome_check};
-ghost use Rattle.scope_checks.specs.Passes.{Passes};
+ghost use Rattle.std.specs.Prelude.{◌≡◌, IfOk, IsSome, Some, length, slice_get};
+ghost use Rattle.scope_checks.specs.{Passes.Passes, actor_check, bindings, bound_as_opened, bound_to, closed, closing, counts, deadline, effective, first_cancel, forked_in, forking, holds_last, inner, innermost, is_cancelled};
+ghost use Rattle.scope_checks.specs.{joined, load, moment, next_level, opening, outcome, outcome_check, outermost, owner_check, refuse_closing, scope_check, scopes, settled, stack, stage, state, task_check, tasks, tasks_of};
+ghost use Rattle.scope_checks.specs.{verdict};
 
 use scope_rules::types::answers::{Counts, Effective, Stage, State, Verdict};
 use scope_rules::types::names::Name;

@@ -1,20 +1,8 @@
 //! The table of checks: one function a row, which tries the checks in their order; what an event answers
 //! that passes its row; and what a retirement, which is no event, is refused for.
 
-ghost use Rattle.std.specs.Prelude.{◌≡◌, ◌<◌, ℕ, Option};
-ghost use Rattle.scope_rules.specs.declared.types.capacity.Limits.{Limits};
-ghost use Rattle.scope_rules.specs.declared.types.values.Label.{Label};
-ghost use Rattle.scope_rules.specs.declared.types.joiners.Policy.{Policy};
-ghost use Rattle.scope_rules.specs.declared.types.events.Options.{Options};
-ghost use Rattle.scope_rules.specs.declared.types.events.Binding.{Binding};
-ghost use Rattle.scope_rules.specs.Ends.{EndValue};
-ghost use Rattle.scope_rules.specs.History.{tasks};
-ghost use Rattle.scope_rules.specs.Load.{weight};
-ghost use Rattle.scope_rules.specs.Replies.{fork_reply};
-ghost use Rattle.scope_rules.specs.Checks.{checks};
-ghost use Rattle.scope_rules.specs.Table.{row_check, retire_row, check_of, retire_check, answering};
-ghost use Rattle.scope_rules.specs.declared.types.capacity.TheConstants.{GREATEST_NUMBER};
-ghost use Rattle.scope_checks.specs.EventReplies.{event_reply_of, noted};
+ghost use Rattle.std.specs.Prelude.{ℕ, ◌<◌, ◌≡◌, Option};
+ghost use Rattle.scope_checks.specs.{Binding, EndValue, GREATEST_NUMBER, Label, Limits, Options, Policy, answering, check_of, checks, event_reply_of, fork_reply, noted, retire_check, retire_row, row_check, tasks, weight};
 
 use crate::checks::{
     fail_if, in_closing, is_innermost, known_actor, known_scope, known_task, load_fits,

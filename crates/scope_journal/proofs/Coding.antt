@@ -1,14 +1,9 @@
 -- Codes say their events, whatever entries come later.
-use Rattle.std.proofs.Common.{◌≡◌, ℕ, zero, suc, ◌+◌, ◌<◌, Some, List, [], ◌∷◌, ◌++◌, length, get_or, slice_get, take, ap, sym, subst, ◌∙◌, refl, arith, length-append}
+use Rattle.std.proofs.Common.{[], ℕ, ◌++◌, ◌+◌, ◌<◌, ◌∙◌, ◌∷◌, ◌≡◌, List, Some, ap, arith, get_or, length, length-append, refl, slice_get, subst, suc, sym, take, zero}
 use Rattle.std.specs.Option.{option_map}
-use Rattle.std.proofs.lemmas.Option.{slice_get-map, slice_get_read, slice_get_within, get_or_from_slice_get}
-use Rattle.std.proofs.lemmas.List.{map-append, take_more}
-use Rattle.scope_rules.specs.declared.types.events.Event.{Event}
-use Rattle.scope_rules.specs.Load.{weight}
-use Rattle.scope_journal.specs.declared.codes.Code.{Code}
+use Rattle.scope_journal.specs.{AreCodes, Code, Codes.Codes, EntryTable, Event, HasEntry, HasMoreRoom, HaveEntries, Keeps, event_of, events_said, weight}
+use Rattle.scope_journal.proofs.Words.{get_or_from_slice_get, map-append, slice_get-map, slice_get_read, slice_get_within, take_more}
 use Rattle.scope_journal.specs.declared.codes.Code.TheVariants as code
-use Rattle.scope_journal.specs.Codes.{EntryTable, HasEntry, HaveEntries, HasMoreRoom, Keeps, Codes, event_of}
-use Rattle.scope_journal.specs.EventTable.{AreCodes, events_said}
 
 -- the code at a place has its entry
 pub entry_at : (t : EntryTable) (cs : List Code) (i : ℕ) (d : Code) → HaveEntries t cs → i < length cs → HasEntry t (get_or cs i d)

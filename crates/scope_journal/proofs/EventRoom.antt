@@ -1,16 +1,7 @@
 -- A legal history has no more events than its load pays for.
-use Rattle.std.proofs.Common.{◌+◌, ◌≤◌, [], ◌∷◌, length, arith, length-append}
-use Rattle.scope_rules.specs.declared.types.capacity.Limits.{Limits}
-use Rattle.scope_rules.specs.declared.types.events.Event.{Event}
-use Rattle.scope_rules.specs.Origin.{Origin}
-use Rattle.scope_rules.specs.History.{History, followed}
-use Rattle.scope_rules.specs.Legal.{Accepts, Legal}
-use Rattle.scope_rules.specs.Load.{load}
-use Rattle.scope_rules.specs.Owed.{missing, owed}
-use Rattle.scope_rules.proofs.OneEventMore.{along}
-use Rattle.scope_rules.proofs.Owing.{owed_event}
-use Rattle.scope_rules.proofs.Pushing.{load_push}
-use Rattle.scope_journal.specs.TrailLaws.{EventsFindRoom, FreeEventsFindRoom}
+use Rattle.std.proofs.Common.{[], ◌+◌, ◌∷◌, ◌≤◌, arith, length, length-append}
+use Rattle.scope_journal.specs.{Accepts, Event, EventsFindRoom, FreeEventsFindRoom, History, Legal, Limits, Origin, followed, load, missing, owed}
+use Rattle.scope_journal.proofs.Words.{along, load_push, owed_event}
 
 -- the load pays for the base's pairs, the events, and what may still come at no cost
 record IsPaid (h : History) : Type 0 where

@@ -1,17 +1,8 @@
 -- One accepted event more keeps what a journal keeps, and so does a retirement.
-use Rattle.std.proofs.Common.{◌≡◌, ℕ, ◌+◌, ◌<◌, ◌≤◌, Option, List, [], ◌∷◌, length, refl, arith, length-append}
-use Rattle.scope_rules.specs.declared.types.capacity.Limits.{Limits}
-use Rattle.scope_rules.specs.declared.types.capacity.TheConstants.{LOAD_LIMIT, GREATEST_NUMBER}
-use Rattle.scope_rules.specs.declared.types.events.Event.{Event}
-use Rattle.scope_rules.specs.Origin.{Origin}
-use Rattle.scope_rules.specs.History.{History, followed, HasSmallNumbers}
-use Rattle.scope_rules.specs.Load.{load, weight}
-use Rattle.scope_rules.specs.Replies.{base_of}
-use Rattle.scope_rules.specs.Legal.{Accepts, Legal}
-use Rattle.scope_rules.specs.Owed.{owed, missing, join_mark, begin_mark, end_mark, take_mark, finish_mark}
-use Rattle.scope_journal.specs.JournalKeeps.{JournalKeeps}
-use Rattle.scope_rules.proofs.Owing.{owed_event}
-use Rattle.scope_rules.proofs.Pushing.{legal_push, load_push, within_push, stack_within}
+use Rattle.std.proofs.Common.{[], ℕ, ◌+◌, ◌<◌, ◌∷◌, ◌≡◌, ◌≤◌, List, Option, arith, length, length-append, refl}
+use Rattle.scope_journal.specs.{Accepts, Event, GREATEST_NUMBER, HasSmallNumbers, History, JournalKeeps.JournalKeeps, LOAD_LIMIT, Legal, Limits, Origin, base_of, begin_mark, end_mark, finish_mark, followed, join_mark, load}
+use Rattle.scope_journal.specs.{missing, owed, take_mark, weight}
+use Rattle.scope_journal.proofs.Words.{legal_push, load_push, owed_event, stack_within, within_push}
 
 -- with room for its load, an accepted event keeps what is kept
 pub kept_push : (L : Limits) (h : History) (e : Event) (capacity more units : ℕ) → JournalKeeps L h capacity units → Accepts L h e → load h + weight e ≤ more → JournalKeeps L (followed h e) more (units + weight e)

@@ -1,19 +1,9 @@
 -- A trail leads from each event of its scope to the one before it.
-use Rattle.std.proofs.Common.{◌≡◌, ℕ, zero, suc, ◌+◌, ◌<◌, ◌≤◌, Bool, true, false, cond, Option, Some, None, List, [], ◌∷◌, ◌++◌, length, get_or, slice_get, refl, ap, sym, subst, ◌∙◌, arith, inl, inr}
-use Rattle.std.proofs.lemmas.Bool.{cases_order, both_ways, lt-ltb, le-ltb}
-use Rattle.std.proofs.lemmas.List.{append-nil}
-use Rattle.std.proofs.lemmas.Option.{slice_get_within, slice_get_read}
-use Rattle.std.specs.Option.{option_map_or, option_and_then}
-use Rattle.std.specs.List.{flat_map, range_with_len}
-use Rattle.scope_rules.specs.declared.types.events.Event.{Event}
-use Rattle.scope_rules.specs.History.{History, before}
-use Rattle.scope_rows.proofs.Places.{entry_there}
-use Rattle.scope_log.specs.Log.{is_of}
-use Rattle.scope_log.proofs.LogSteps.{flat_map_more}
-use Rattle.scope_journal.specs.Places.{is_of_at, if_one, places_of, IsLatest}
-use Rattle.scope_journal.specs.TrailTable.{TrailTable, HasTrail, if_back, back, last_in, trail_of}
-use Rattle.scope_journal.specs.TrailsOf.{AreTrailsOf, IsTrailOf}
-use Rattle.scope_journal.proofs.TrailWalks.{ahead, bound, back_below, trail_enough}
+use Rattle.std.proofs.Common.{[], ℕ, ◌++◌, ◌+◌, ◌<◌, ◌∙◌, ◌∷◌, ◌≡◌, ◌≤◌, Bool, List, None, Option, Some, ap, arith, cond, false, get_or, inl, inr, length, refl, slice_get, subst, suc, sym, true, zero}
+use Rattle.scope_journal.specs.{AreTrailsOf, Event, HasTrail, History, IsLatest, IsTrailOf, TrailTable.TrailTable, back, before, flat_map, if_back, if_one, is_of, is_of_at, last_in, option_and_then, option_map_or, places_of}
+use Rattle.scope_journal.specs.{range_with_len, trail_of}
+use Rattle.scope_journal.proofs.Words.{append-nil, both_ways, cases_order, entry_there, flat_map_more, le-ltb, lt-ltb, slice_get_read, slice_get_within}
+use Rattle.scope_journal.proofs.TrailWalks.{ahead, back_below, bound, trail_enough}
 
 -- ---- lists that end alike
 

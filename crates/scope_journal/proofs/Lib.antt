@@ -8,3 +8,4 @@ pub mod TrailSteps
 pub mod Trailed
 pub mod Latest
 pub mod Projected
+mod Words

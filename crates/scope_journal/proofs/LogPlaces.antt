@@ -1,14 +1,9 @@
 -- What the places of a scope's events say of its log.
-use Rattle.std.proofs.Common.{◌≡◌, ℕ, zero, suc, ◌+◌, Bool, true, false, cond, Option, Some, None, List, ◌++◌, slice_get, refl, ap, sym, ◌∙◌}
-use Rattle.std.proofs.lemmas.Bool.{eqb-true, eq-eqb}
-use Rattle.std.specs.Option.{option_map_or, option_and_then}
-use Rattle.std.specs.List.{flat_map, filter_map, range_with_len, cons_option}
-use Rattle.scope_rules.specs.declared.types.events.Event.{Event}
-use Rattle.scope_rules.specs.History.{History, before}
-use Rattle.scope_log.specs.Log.{is_of, said, entry_of, entry_at}
-use Rattle.scope_journal.specs.Places.{scope_of_event, is_of_at, if_one, places_of}
-use Rattle.scope_journal.specs.TrailLaws.{EventsAreOfOneScope, EntriesAreAtPlaces}
-use Rattle.scope_journal.proofs.PlaceSteps.{is_this, event_of}
+use Rattle.std.proofs.Common.{ℕ, ◌++◌, ◌+◌, ◌∙◌, ◌≡◌, Bool, List, None, Option, Some, ap, cond, false, refl, slice_get, suc, sym, true, zero}
+use Rattle.scope_journal.specs.{EntriesAreAtPlaces, Event, EventsAreOfOneScope, History, before, cons_option, entry_at, entry_of, filter_map, flat_map, if_one, is_of, is_of_at, option_and_then, option_map_or, places_of}
+use Rattle.scope_journal.specs.{range_with_len, said, scope_of_event}
+use Rattle.scope_journal.proofs.Words.{eq-eqb, eqb-true}
+use Rattle.scope_journal.proofs.PlaceSteps.{event_of, is_this}
 
 this_one : (o : Option ℕ) (s : ℕ) → is_this o s ≡ true → o ≡ Some s
 this_one None s so = absurd cc

@@ -1,24 +1,8 @@
 -- What one event more adds to the places of a scope's events.
-use Rattle.std.proofs.Common.{◌≡◌, ℕ, zero, suc, ◌+◌, ◌<◌, ◌==◌, Bool, true, false, cond, Option, Some, None, option_map, List, [], ◌∷◌, ◌++◌, length, slice_get, refl, ap, ◌∙◌, arith, length-append}
-use Rattle.std.specs.Option.{option_map_or, option_and_then}
-use Rattle.std.specs.List.{flat_map, range_with_len, cons_option}
-use Rattle.scope_rules.specs.declared.types.capacity.Limits.{Limits}
-use Rattle.scope_rules.specs.declared.types.events.Event.{Event}
-use Rattle.scope_rules.specs.declared.types.events.Event.TheVariants.{Open, Fork, Reject, Start, Finish, Cancel, Move, Join, BeginClose, EndClose}
-use Rattle.scope_rules.specs.declared.types.records.Forking.{Forking}
-use Rattle.scope_rules.specs.declared.types.records.Opening.{Opening}
-use Rattle.scope_rules.specs.History.{History, followed, before, forking, opening, scopes}
-use Rattle.scope_rules.specs.Completions.{is_task_of}
-use Rattle.scope_rules.specs.Legal.{Legal}
-use Rattle.scope_rules.proofs.Innermosts.{opened_after}
-use Rattle.scope_rules.proofs.OneEventMore.{last_event}
-use Rattle.scope_rules.proofs.Prefixes.{get_push}
-use Rattle.scope_rules.proofs.Pushing.{before_push, before_last}
-use Rattle.scope_log.specs.declared.entries.LogEntry.{LogEntry}
-use Rattle.scope_log.specs.Log.{is_of, entry_of, entry_at, mark_at, entries_at, entries}
-use Rattle.scope_log.proofs.LogSteps.{flat_map_same, flat_map_more}
-use Rattle.scope_log.proofs.NewLogs.{no_entries}
-use Rattle.scope_journal.specs.Places.{scope_of_task, scope_of_event, is_of_at, if_one, places_of}
+use Rattle.std.proofs.Common.{[], ℕ, ◌++◌, ◌+◌, ◌<◌, ◌==◌, ◌∙◌, ◌∷◌, ◌≡◌, Bool, List, None, Option, Some, ap, arith, cond, false, length, length-append, option_map, refl, slice_get, suc, true, zero}
+use Rattle.scope_journal.specs.{BeginClose, Cancel, EndClose, Event, Finish, Fork, Forking, History, Join, Legal, Limits, LogEntry, Move, Open, Opening, Reject, Start, before, cons_option, entries, entries_at, entry_at, entry_of}
+use Rattle.scope_journal.specs.{flat_map, followed, forking, if_one, is_of, is_of_at, is_task_of, mark_at, opening, option_and_then, option_map_or, places_of, range_with_len, scope_of_event, scope_of_task, scopes}
+use Rattle.scope_journal.proofs.Words.{before_last, before_push, flat_map_more, flat_map_same, get_push, last_event, no_entries, opened_after}
 
 -- ---- which scope an event is of
 

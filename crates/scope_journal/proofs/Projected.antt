@@ -1,34 +1,12 @@
 -- What the events at a scope's places say, one after another, and where the mark comes among them.
-use Rattle.std.proofs.Common.{◌≡◌, ℕ, zero, suc, ◌+◌, ◌-◌, ◌<◌, ◌≤◌, Bool, true, false, cond, Option, Some, None, option_map, List, [], ◌∷◌, ◌++◌, length, take, drop, get_or, slice_get, refl, ap, sym, subst, ◌∙◌, arith}
-use Rattle.std.proofs.lemmas.Bool.{le-leb, lt-leb}
-use Rattle.std.proofs.lemmas.List.{take-append-drop, take_at, drop_at, at_drop_more}
-use Rattle.std.proofs.lemmas.List.Elements.{filter_map-append}
-use Rattle.std.proofs.lemmas.List.Sums.{count_by-le-length}
-use Rattle.std.proofs.lemmas.List.Concat.{flat_map-append}
-use Rattle.std.proofs.lemmas.Option.{slice_get-get_or}
-use Rattle.std.proofs.Math.Seq.{get_or-append_seam}
-use Rattle.std.specs.Option.{option_map_or, option_and_then}
-use Rattle.std.specs.List.{flat_map, filter, filter_map, range_with_len, cons_option, insert}
-use Rattle.scope_rules.specs.declared.types.answers.Cause.{Cause}
-use Rattle.scope_rules.specs.declared.types.capacity.Limits.{Limits}
-use Rattle.scope_rules.specs.declared.types.events.Event.{Event}
-use Rattle.scope_rules.specs.declared.types.events.Event.TheVariants.{Open, Fork, Reject, Start, Finish, Cancel, Move, Join, BeginClose, EndClose}
-use Rattle.scope_rules.specs.declared.types.values.Label.{Label}
-use Rattle.scope_rules.specs.History.{History, before, opening, is_fork, tasks, task_numbers}
-use Rattle.scope_rules.specs.Completions.{is_task_of}
-use Rattle.scope_rules.specs.Cancels.{first_cancel, cause, cancelled_at}
-use Rattle.scope_rules.specs.Legal.{Legal}
-use Rattle.scope_rules.proofs.Completions.{count_by-cons}
-use Rattle.scope_log.specs.declared.entries.LogEntry.{LogEntry}
+use Rattle.std.proofs.Common.{[], ℕ, ◌++◌, ◌+◌, ◌-◌, ◌<◌, ◌∙◌, ◌∷◌, ◌≡◌, ◌≤◌, Bool, List, None, Option, Some, ap, arith, cond, drop, false, get_or, length, option_map, refl, slice_get, subst, suc, sym, take, true, zero}
+use Rattle.scope_journal.specs.{BeginClose, Cancel, Cause, EndClose, Event, Finish, Fork, History, Join, Label, Legal, Limits, LogEntry, Move, Open, Reject, Start, before, cancel_of, cancelled_at, cause, cons_option, entries}
+use Rattle.scope_journal.specs.{entries_from, entry_at, entry_of, filter, filter_map, first_cancel, flat_map, if_one, insert, is_fork, is_of, is_of_at, is_task_of, is_up_to, marked, opening, option_and_then, option_map_or}
+use Rattle.scope_journal.specs.{places_of, range_with_len, said, said_with, task_forked, task_numbers, tasks, tasks_in, up_to}
+use Rattle.scope_journal.proofs.Words.{at_drop_more, cancelled_within, causeless, count_by-cons, count_by-le-length, drop_at, entries_marked, filter_map-append, flat_map-append, get_or-append_seam, le-leb, lt-leb}
+use Rattle.scope_journal.proofs.Words.{slice_get-get_or, take-append-drop, take_at, tasks_told}
+use Rattle.scope_journal.proofs.LogPlaces.{at_places, entries_placed}
 use Rattle.scope_log.specs.declared.entries.LogEntry.TheVariants as entry
-use Rattle.scope_log.specs.Log.{is_of, said, said_with, entry_of, entry_at, entries}
-use Rattle.scope_log.specs.LocalForms.{task_forked, tasks_in}
-use Rattle.scope_log.specs.LogLaws.{entries_from}
-use Rattle.scope_log.proofs.MarkPlaces.{entries_marked, cancelled_within, causeless}
-use Rattle.scope_log.proofs.LogCounts.{tasks_told}
-use Rattle.scope_journal.specs.Places.{is_of_at, if_one, places_of}
-use Rattle.scope_journal.specs.Marks.{cancel_of, is_up_to, up_to, marked}
-use Rattle.scope_journal.proofs.LogPlaces.{entries_placed, at_places}
 
 -- ---- what is said at a place
 

@@ -1,29 +1,9 @@
 -- How what is kept of the places of events goes on by one event.
-use Rattle.std.proofs.Common.{◌≡◌, ℕ, suc, ◌+◌, ◌≤◌, Bool, true, false, Option, Some, None, List, [], ◌∷◌, ◌++◌, length, get_or, reverse, slice_get, refl, ap, sym, subst, ◌∙◌, arith, length-append}
-use Rattle.std.proofs.lemmas.Bool.{eq-eqb, ne_eqb}
-use Rattle.std.proofs.lemmas.Grind.{get_or_default_zero}
-use Rattle.std.proofs.lemmas.List.{append-nil}
-use Rattle.std.proofs.lemmas.Option.{get_or_from_slice_get}
-use Rattle.scope_rules.specs.declared.types.capacity.Limits.{Limits}
-use Rattle.scope_rules.specs.declared.types.events.Event.{Event}
-use Rattle.scope_rules.specs.declared.types.events.Event.TheVariants.{Open}
-use Rattle.scope_rules.specs.declared.types.events.Options.{Options}
-use Rattle.scope_rules.specs.declared.types.joiners.Policy.{Policy}
-use Rattle.scope_rules.specs.Origin.{Origin}
-use Rattle.scope_rules.specs.History.{History, followed, scopes, is_open}
-use Rattle.scope_rules.specs.Legal.{Legal}
-use Rattle.scope_rules.specs.Load.{load}
-use Rattle.scope_rules.proofs.Owing.{count_push}
-use Rattle.scope_rows.specs.Table.{place_of}
-use Rattle.scope_rows.proofs.Altering.{altered_length}
-use Rattle.scope_rows.proofs.Keeping.{count_same}
-use Rattle.scope_rows.proofs.Places.{entry_there, place_within, AreRight, right_pushed, right_altered}
-use Rattle.scope_log.specs.Log.{is_of}
-use Rattle.scope_journal.specs.Places.{scope_of_event, if_one, places_of}
-use Rattle.scope_journal.specs.TrailTable.{TrailTable, HasTrail, last_in, trail_in, trail_to, no_trails, with_open, with_last, with_event}
-use Rattle.scope_journal.specs.TrailsOf.{AreTrailsOf, IsTrailOf, HasLoadRoom}
-use Rattle.scope_journal.proofs.PlaceSteps.{is_this, event_of, places_grow, next_unplaced}
-use Rattle.scope_journal.proofs.TrailWalks.{ahead, trail_grown, trail_begins, trail_goes_on}
+use Rattle.std.proofs.Common.{[], ℕ, ◌++◌, ◌+◌, ◌∙◌, ◌∷◌, ◌≡◌, ◌≤◌, Bool, List, None, Option, Some, ap, arith, false, get_or, length, length-append, refl, reverse, slice_get, subst, suc, sym, true}
+use Rattle.scope_journal.specs.{AreTrailsOf, Event, HasLoadRoom, HasTrail, History, IsTrailOf, Legal, Limits, Open, Options, Origin, Policy, TrailTable.TrailTable, TrailTable.with_event, followed, if_one, is_of, is_open, last_in}
+use Rattle.scope_journal.specs.{load, no_trails, place_of, places_of, scope_of_event, scopes, trail_in, trail_to, with_last, with_open}
+use Rattle.scope_journal.proofs.Words.{AreRight, altered_length, append-nil, count_push, count_same, entry_there, eq-eqb, get_or_default_zero, get_or_from_slice_get, ne_eqb, place_within, right_altered, right_pushed}
+use Rattle.scope_journal.proofs.{PlaceSteps.event_of, PlaceSteps.is_this, PlaceSteps.next_unplaced, PlaceSteps.places_grow, TrailWalks.ahead, TrailWalks.trail_begins, TrailWalks.trail_goes_on, TrailWalks.trail_grown}
 
 -- ---- what is there
 

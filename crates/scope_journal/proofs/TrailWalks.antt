@@ -1,12 +1,7 @@
 -- A trail and the walk along it: it stays as the links grow, and goes on by the last.
-use Rattle.std.proofs.Common.{◌≡◌, ℕ, zero, suc, ◌<◌, ◌≤◌, Bool, true, false, cond, ltb, Option, Some, None, List, [], ◌∷◌, ◌++◌, length, reverse, slice_get, refl, ap, sym, ◌∙◌, arith, length-append, append_assoc}
-use Rattle.std.proofs.Math.Seq.{get_or-append_seam}
-use Rattle.std.proofs.lemmas.Bool.{ltb-true, lt-ltb, le-ltb}
-use Rattle.std.proofs.lemmas.List.{reverse-append}
-use Rattle.std.proofs.lemmas.Option.{slice_get-get_or}
-use Rattle.std.specs.Option.{option_and_then}
-use Rattle.scope_rules.proofs.Prefixes.{get_push}
-use Rattle.scope_journal.specs.TrailTable.{if_back, back, trail_of, trail_to}
+use Rattle.std.proofs.Common.{[], ℕ, ◌++◌, ◌<◌, ◌∙◌, ◌∷◌, ◌≡◌, ◌≤◌, Bool, List, None, Option, Some, ap, append_assoc, arith, cond, false, length, length-append, ltb, refl, reverse, slice_get, suc, sym, true, zero}
+use Rattle.scope_journal.specs.{back, if_back, option_and_then, trail_of, trail_to}
+use Rattle.scope_journal.proofs.Words.{get_or-append_seam, get_push, le-ltb, lt-ltb, ltb-true, reverse-append, slice_get-get_or}
 
 -- how many places stand up to a place, or to none: a trail has no more
 abbrev pub bound : Option ℕ → ℕ

@@ -1,16 +1,7 @@
 -- A scope that was opened has a trail, so an event can be told of its scope.
-use Rattle.std.proofs.Common.{◌≡◌, ℕ, false, Some, sym, ◌∙◌}
-use Rattle.scope_rules.specs.declared.types.capacity.Limits.{Limits}
-use Rattle.scope_rules.specs.declared.types.events.Event.{Event}
-use Rattle.scope_rules.specs.History.{History, is_open}
-use Rattle.scope_rules.specs.Legal.{Accepts, Legal}
-use Rattle.scope_rules.proofs.Nesting.{IsOpened}
-use Rattle.scope_rules.proofs.OneEventMore.{opening_same}
-use Rattle.scope_rows.proofs.Places.{opened_numbered}
-use Rattle.scope_log.proofs.NewLogs.{named_opened}
-use Rattle.scope_journal.specs.Places.{scope_of_event}
-use Rattle.scope_journal.specs.TrailTable.{TrailTable, HasTrail}
-use Rattle.scope_journal.specs.TrailsOf.{AreTrailsOf}
+use Rattle.std.proofs.Common.{ℕ, ◌∙◌, ◌≡◌, Some, false, sym}
+use Rattle.scope_journal.specs.{Accepts, AreTrailsOf, Event, HasTrail, History, Legal, Limits, TrailTable.TrailTable, is_open, scope_of_event}
+use Rattle.scope_journal.proofs.Words.{IsOpened, named_opened, opened_numbered, opening_same}
 use Rattle.scope_journal.proofs.LogPlaces.{one_scope}
 
 -- a scope that was opened has a trail

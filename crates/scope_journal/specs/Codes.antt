@@ -1,12 +1,7 @@
 -- What a code says, with the lists that have its entry.
-use Rattle.std.specs.Prelude.{◌≡◌, ℕ, ◌+◌, ◌-◌, ◌<◌, ◌≤◌, Option, Some, None, Ok, Err, List, [], ◌∷◌, length, slice_get}
-use Rattle.scope_rules.specs.declared.types.events.Event.{Event}
+use Rattle.std.specs.Prelude.{[], ℕ, ◌+◌, ◌-◌, ◌<◌, ◌∷◌, ◌≡◌, ◌≤◌, Err, List, None, Ok, Option, Some, length, slice_get}
+use Rattle.scope_journal.specs.Words.{Code, Event, Label, Name, Num, Text, weight}
 use Rattle.scope_rules.specs.declared.types.events.Event.TheVariants as event
-use Rattle.scope_rules.specs.declared.types.names.Name.{Name}
-use Rattle.scope_rules.specs.declared.types.values.Label.{Label}
-use Rattle.scope_rules.specs.declared.types.values.Value.TheVariants.{Num, Text}
-use Rattle.scope_rules.specs.Load.{weight}
-use Rattle.scope_journal.specs.declared.codes.Code.{Code}
 use Rattle.scope_journal.specs.declared.codes.Code.TheVariants as code
 
 -- the entries of the codes

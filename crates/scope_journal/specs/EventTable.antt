@@ -1,9 +1,7 @@
 -- What a list of events is: the events, and its room. And what ties it to its codes.
-use Rattle.std.specs.Prelude.{◌≡◌, ℕ, ◌-◌, ◌<◌, ◌≤◌, List, [], ◌∷◌, ◌++◌, length, map}
-use Rattle.scope_rules.specs.declared.types.events.Event.{Event}
-use Rattle.scope_rules.specs.Load.{weight}
-use Rattle.scope_journal.specs.declared.codes.Code.{Code}
-use Rattle.scope_journal.specs.Codes.{EntryTable, HaveEntries, AreAtMost, event_of}
+use Rattle.std.specs.Prelude.{[], ℕ, ◌++◌, ◌-◌, ◌<◌, ◌∷◌, ◌≡◌, ◌≤◌, List, length, map}
+use Rattle.scope_journal.specs.Words.{Code, Event, weight}
+use Rattle.scope_journal.specs.Codes.{AreAtMost, EntryTable, HaveEntries, event_of}
 
 pub record EventTable : Type 0 where
   pub events : List Event

@@ -1,12 +1,6 @@
 -- What a journal is: its realm, and its room. And what it keeps true of them.
-use Rattle.std.specs.Prelude.{◌≡◌, ℕ, ◌+◌, ◌-◌, ◌≤◌, length, Result, Ok, Err}
-use Rattle.scope_rules.specs.declared.types.capacity.Limits.{Limits}
-use Rattle.scope_rules.specs.History.{History}
-use Rattle.scope_rules.specs.Load.{load}
-use Rattle.scope_rules.specs.Legal.{Legal, IsWithin}
-use Rattle.scope_rules.specs.Owed.{owed}
-use Rattle.scope_rules.specs.declared.types.refusals.Refusal.{Refusal}
-use Rattle.scope_rules.specs.Replies.{Realm}
+use Rattle.std.specs.Prelude.{ℕ, ◌+◌, ◌-◌, ◌≡◌, ◌≤◌, Err, Ok, Result, length}
+use Rattle.scope_journal.specs.Words.{History, IsWithin, Legal, Limits, Realm, Refusal, load, owed}
 use Rattle.scope_journal.specs.EventTable.{EventTable}
 
 -- the realm, and how many units of load its next events may cost without memory

@@ -1,11 +1,6 @@
 -- Where the mark of a cancellation is among what the events at a scope's places say.
-use Rattle.std.specs.Prelude.{ℕ, Bool, nat_le, Option, Some, None, option_map, List, count_by}
-use Rattle.std.specs.Option.{option_and_then}
-use Rattle.std.specs.List.{insert}
-use Rattle.scope_rules.specs.declared.types.answers.Cause.{Cause}
-use Rattle.scope_rules.specs.History.{History}
-use Rattle.scope_rules.specs.Cancels.{cause, cancelled_at}
-use Rattle.scope_log.specs.declared.entries.LogEntry.{LogEntry}
+use Rattle.std.specs.Prelude.{option_map}
+use Rattle.scope_journal.specs.Words.{ℕ, Bool, Cause, History, List, LogEntry, None, Option, Some, cancelled_at, cause, count_by, insert, nat_le, option_and_then}
 use Rattle.scope_log.specs.declared.entries.LogEntry.TheVariants as entry
 
 -- the place of the event by which scope s became cancelled, and why, if it is

@@ -1,12 +1,6 @@
 -- Which events of a history are of a scope, and their places.
-use Rattle.std.specs.Prelude.{◌≡◌, ℕ, ◌+◌, ◌<◌, Bool, true, false, Option, Some, None, option_map, List, [], ◌∷◌, length, slice_get, if◌then◌else◌}
-use Rattle.std.specs.Option.{option_map_or}
-use Rattle.std.specs.List.{flat_map, range_with_len}
-use Rattle.scope_rules.specs.declared.types.events.Event.{Event}
-use Rattle.scope_rules.specs.declared.types.events.Event.TheVariants.{Open, Fork, Reject, Start, Finish, Cancel, Move, Join, BeginClose, EndClose}
-use Rattle.scope_rules.specs.declared.types.records.Forking.{Forking}
-use Rattle.scope_rules.specs.History.{History, before, forking, scopes}
-use Rattle.scope_log.specs.Log.{is_of}
+use Rattle.std.specs.Prelude.{[], ℕ, ◌+◌, ◌<◌, ◌∷◌, ◌≡◌, Bool, List, None, Option, Some, false, if◌then◌else◌, length, option_map, slice_get, true}
+use Rattle.scope_journal.specs.Words.{BeginClose, Cancel, EndClose, Event, Finish, Fork, Forking, History, Join, Move, Open, Reject, Start, before, flat_map, forking, is_of, option_map_or, range_with_len, scopes}
 
 -- the scope in which task k was forked
 abbrev pub scope_of_task : History → ℕ → Option ℕ

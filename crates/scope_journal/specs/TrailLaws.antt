@@ -1,16 +1,7 @@
 -- What holds of the places of events, and of the room for them, for every legal history.
-use Rattle.std.specs.Prelude.{◌≡◌, ◌↔◌, ℕ, true, Some, length}
-use Rattle.std.specs.List.{filter_map}
-use Rattle.scope_rules.specs.declared.types.capacity.Limits.{Limits}
-use Rattle.scope_rules.specs.declared.types.events.Event.{Event}
-use Rattle.scope_rules.specs.History.{History, followed}
-use Rattle.scope_rules.specs.Legal.{Accepts, Legal}
-use Rattle.scope_rules.specs.Load.{weight}
-use Rattle.scope_log.specs.Log.{is_of, entry_at}
-use Rattle.scope_log.specs.LogLaws.{entries_from}
-use Rattle.scope_journal.specs.Places.{scope_of_event, places_of}
-use Rattle.scope_journal.specs.TrailTable.{TrailTable, HasEventRoom}
-use Rattle.scope_journal.specs.TrailsOf.{AreTrailsOf, HasLoadRoom}
+use Rattle.std.specs.Prelude.{ℕ, ◌↔◌, ◌≡◌, Some, length, true}
+use Rattle.scope_journal.specs.Words.{Accepts, Event, History, Legal, Limits, entries_from, entry_at, filter_map, followed, is_of, weight}
+use Rattle.scope_journal.specs.{Places.places_of, Places.scope_of_event, TrailTable.HasEventRoom, TrailTable.TrailTable, TrailsOf.AreTrailsOf, TrailsOf.HasLoadRoom}
 
 -- an event is of the scope that is its, and of no other
 abbrev pub EventsAreOfOneScope : Type 0

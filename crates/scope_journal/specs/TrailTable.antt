@@ -1,9 +1,7 @@
 -- What is kept of the places of events: beside each event that of the event of the same scope before it,
 -- and for each scope that of its last. And how a call changes that.
-use Rattle.std.specs.Prelude.{ℕ, zero, suc, ◌-◌, ◌<◌, nat_lt, Option, Some, None, List, [], ◌∷◌, ◌++◌, length, slice_get, slice_index, if◌then◌else◌}
-use Rattle.std.specs.Option.{option_and_then}
-use Rattle.scope_rows.specs.Table.{IsNumbered, place_of}
-use Rattle.scope_rows.specs.Steps.{altered}
+use Rattle.std.specs.Prelude.{[], ℕ, ◌++◌, ◌-◌, ◌<◌, ◌∷◌, List, None, Option, Some, if◌then◌else◌, length, nat_lt, slice_get, slice_index, suc, zero}
+use Rattle.scope_journal.specs.Words.{IsNumbered, altered, option_and_then, place_of}
 
 pub record TrailTable : Type 0 where
   -- how many scopes were numbered before

@@ -1,9 +1,7 @@
 -- When what is kept of the places of events is a history's.
-use Rattle.std.specs.Prelude.{◌≡◌, ℕ, ◌+◌, ◌≤◌, ◌<◌, List, Some, length, slice_get}
-use Rattle.scope_rules.specs.History.{History, opened_count}
-use Rattle.scope_rules.specs.Load.{load}
-use Rattle.scope_journal.specs.Places.{places_of}
-use Rattle.scope_journal.specs.TrailTable.{TrailTable, trail_to}
+use Rattle.std.specs.Prelude.{ℕ, ◌+◌, ◌<◌, ◌≡◌, ◌≤◌, List, Some, length, slice_get}
+use Rattle.scope_journal.specs.Words.{History, load, opened_count}
+use Rattle.scope_journal.specs.{Places.places_of, TrailTable.TrailTable, TrailTable.trail_to}
 
 -- a realm's history of so much load has no more events than there is room for. A unit for each pair of
 -- the base is no event's.

@@ -1,9 +1,8 @@
 //! What the codes of events leave out.
 
-ghost use Rattle.std.specs.Prelude.{◌≡◌, ◌↔◌, ◌+◌, ◌-◌, ◌<◌, ◌≤◌, ◌^◌, [], IsTrue, IfOk, OnOk, OnErr, length};
-ghost use Rattle.scope_rules.specs.Load.{weight};
+ghost use Rattle.std.specs.Prelude.{[], ◌+◌, ◌-◌, ◌<◌, ◌^◌, ◌↔◌, ◌≡◌, ◌≤◌, IfOk, IsTrue, OnErr, OnOk, length};
+ghost use Rattle.scope_journal.specs.{AreAtMost, Codes.Codes, EntryTable, HasEntry, HasMoreRoom, IsLast, IsPlaced, Keeps, event_of, weight};
 ghost use Rattle.scope_rules.specs.declared.types.events.Event.TheVariants as event;
-ghost use Rattle.scope_journal.specs.Codes.{EntryTable, event_of, HasEntry, HasMoreRoom, AreAtMost, IsPlaced, IsLast, Keeps, Codes};
 
 use crate::codes::Code;
 use scope_rules::types::values::Fault;

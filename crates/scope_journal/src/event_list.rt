@@ -1,8 +1,7 @@
 //! A list of events in few bytes.
 
-ghost use Rattle.std.specs.Prelude.{◌≡◌, ◌+◌, ◌-◌, ◌<◌, ◌≤◌, ◌^◌, ◌++◌, ◌∷◌, [], IfOk, OnOk, OnErr, length, slice_get};
-ghost use Rattle.scope_rules.specs.Load.{weight};
-ghost use Rattle.scope_journal.specs.EventTable.{EventTable, HasRoom, HasMoreEventRoom, IsPushed};
+ghost use Rattle.std.specs.Prelude.{[], ◌++◌, ◌+◌, ◌-◌, ◌<◌, ◌^◌, ◌∷◌, ◌≡◌, ◌≤◌, IfOk, OnErr, OnOk, length, slice_get};
+ghost use Rattle.scope_journal.specs.{EventTable.EventTable, HasMoreEventRoom, HasRoom, IsPushed, weight};
 
 use crate::codes::Code;
 use crate::entries::Entries;

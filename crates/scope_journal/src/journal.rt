@@ -1,9 +1,5 @@
-ghost use Rattle.std.specs.Prelude.{◌≡◌, ◌<◌, ◌≤◌, ◌-◌, Some, IfOk, OnOk, OnErr, MatchResult, length, slice_get};
-ghost use Rattle.scope_rules.specs.History.{HasSmallNumbers};
-ghost use Rattle.scope_rules.specs.Legal.{Accepts, Legal, IsWithin};
-ghost use Rattle.scope_rules.specs.Load.{weight, load};
-ghost use Rattle.scope_rules.specs.Replies.{with_event, starting, base_check, base_of, AnswersOrMemory};
-ghost use Rattle.scope_journal.specs.JournalKeeps.{realm_given};
+ghost use Rattle.std.specs.Prelude.{◌-◌, ◌<◌, ◌≡◌, ◌≤◌, IfOk, MatchResult, OnErr, OnOk, Some, length, slice_get};
+ghost use Rattle.scope_journal.specs.{Accepts, AnswersOrMemory, HasSmallNumbers, IsWithin, Legal, Words.with_event, base_check, base_of, load, realm_given, starting, weight};
 
 use crate::event_list::EventList;
 use crate::weights::weight;

@@ -1,7 +1,7 @@
 //! Laws of the places of events, and of the room for them. Each function does nothing: its contract is
 //! the law.
 
-ghost use Rattle.scope_journal.specs.TrailLaws.{EventsAreOfOneScope, EntriesAreAtPlaces, EventsFindRoom, FreeEventsFindRoom};
+ghost use Rattle.scope_journal.specs.{EntriesAreAtPlaces, EventsAreOfOneScope, EventsFindRoom, FreeEventsFindRoom};
 
 /// An event is in the log of one scope at the most: of the one that it opens, that it names, or in which
 /// the task was forked that it names.

@@ -1,15 +1,6 @@
-ghost use Rattle.std.specs.Prelude.{◌≡◌, ℕ, ◌+◌, ◌-◌, ◌≤◌, ◌<◌, [], true, false, Option, Some, IfOk, OnOk, OnErr, length};
-ghost use Rattle.scope_rules.specs.Origin.{Origin};
-ghost use Rattle.scope_rules.specs.declared.types.capacity.Limits.{Limits};
-ghost use Rattle.scope_rules.specs.declared.types.events.Event.{Event};
-ghost use Rattle.scope_rules.specs.declared.types.events.Event.TheVariants.{Open};
-ghost use Rattle.scope_rules.specs.declared.types.events.Options.{Options};
-ghost use Rattle.scope_rules.specs.declared.types.joiners.Policy.{Policy};
-ghost use Rattle.scope_rules.specs.History.{History, followed, is_open};
-ghost use Rattle.scope_rules.specs.Legal.{Legal};
-ghost use Rattle.scope_journal.specs.Places.{places_of, scope_of_event, is_of_at, IsLatest};
-ghost use Rattle.scope_journal.specs.TrailTable.{HasTrail, HasEventRoom, last_in, back, trail_in, no_trails, with_open, with_last, with_event};
-ghost use Rattle.scope_journal.specs.TrailsOf.{AreTrailsOf, HasLoadRoom};
+ghost use Rattle.std.specs.Prelude.{[], ℕ, ◌+◌, ◌-◌, ◌<◌, ◌≡◌, ◌≤◌, IfOk, OnErr, OnOk, Option, Some, false, length, true};
+ghost use Rattle.scope_journal.specs.{AreTrailsOf, Event, HasEventRoom, HasLoadRoom, HasTrail, History, IsLatest, Legal, Limits, Open, Options, Origin, Policy, TrailTable.with_event, back, followed, is_of_at, is_open, last_in};
+ghost use Rattle.scope_journal.specs.{no_trails, places_of, scope_of_event, trail_in, with_last, with_open};
 
 use scope_rows::Numbered;
 use scope_rules::ScopeId;

@@ -1,5 +1,5 @@
 ghost use Rattle.std.specs.Prelude.{◌≡◌, ◌≤◌};
-ghost use Rattle.scope_rules.specs.Load.{weight};
+ghost use Rattle.scope_journal.specs.{weight};
 
 use scope_rules::Event;
 use scope_rules::types::capacity::{FORK_LOAD, OPEN_LOAD, STEP_LOAD};

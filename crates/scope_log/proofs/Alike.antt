@@ -1,23 +1,10 @@
 -- All that is asked behind a retirement is answered alike.
-use Rattle.std.proofs.Common.{refl, ℕ, List, ap, ◌∙◌}
-use Rattle.scope_rules.specs.declared.types.events.Event.{Event}
-use Rattle.scope_rules.specs.History.{scopes, tasks, moment}
-use Rattle.scope_rules.specs.Bindings.{stack}
-use Rattle.scope_rules.specs.Replies.{base_of}
-use Rattle.scope_log.specs.Folding.{Retirable, unretired, retired, NamesNone}
-use Rattle.scope_log.specs.RetiringLaws.{ScopeAlike, TaskAlike, RetiringChangesNoAnswer, RetiringAgain, RetiringLeavesTheBase}
-use Rattle.scope_log.proofs.Past.{IsScope, IsTask, zero_stays}
-use Rattle.scope_log.proofs.Numbered.{same_scopes, same_tasks, same_moment}
-use Rattle.scope_log.proofs.Standing.{same_joined, same_closed, same_stack}
-use Rattle.scope_log.proofs.Nested.{same_innermost}
-use Rattle.scope_log.proofs.Closing.{same_closing}
-use Rattle.scope_log.proofs.Cancelled.{same_cancelled, same_cause, same_effective}
-use Rattle.scope_log.proofs.Staged.{same_stage, same_state, same_counts, same_tasks_of}
-use Rattle.scope_log.proofs.Answered.{same_outcome}
-use Rattle.scope_log.proofs.Closed.{same_verdict}
-use Rattle.scope_log.proofs.Bound.{same_bindings}
-use Rattle.scope_log.proofs.Displayed.{same_outermost, same_inner, same_label, same_info}
-use Rattle.scope_log.proofs.Checked.{same_scope_check, same_task_check, same_actor_check, same_until_check, same_reading_check, same_check, same_already}
+use Rattle.scope_log.specs.{Event, NamesNone, Retirable, RetiringAgain, RetiringChangesNoAnswer, RetiringLeavesTheBase, ScopeAlike, TaskAlike, Words.moment, Words.scopes, Words.tasks, base_of, retired, stack, unretired}
+use Rattle.scope_log.proofs.Words.{ℕ, ◌∙◌, List, ap, refl}
+use Rattle.scope_log.proofs.{Answered.same_outcome, Bound.same_bindings, Cancelled.same_cancelled, Cancelled.same_cause, Cancelled.same_effective, Checked.same_actor_check, Checked.same_already, Checked.same_check}
+use Rattle.scope_log.proofs.{Checked.same_reading_check, Checked.same_scope_check, Checked.same_task_check, Checked.same_until_check, Closed.same_verdict, Closing.same_closing, Displayed.same_info, Displayed.same_inner}
+use Rattle.scope_log.proofs.{Displayed.same_label, Displayed.same_outermost, Nested.same_innermost, Numbered.same_moment, Numbered.same_scopes, Numbered.same_tasks, Past.IsScope, Past.IsTask, Past.zero_stays, Staged.same_counts}
+use Rattle.scope_log.proofs.{Staged.same_stage, Staged.same_state, Staged.same_tasks_of, Standing.same_closed, Standing.same_joined, Standing.same_stack}
 
 scope_alike : (r : Retirable) (es : List Event) → NamesNone r es → (s : ℕ) → IsScope r s → ScopeAlike (unretired r es) (retired r es) s
 scope_alike r es none s new = record {

@@ -1,30 +1,11 @@
 -- What a join answers of a scope that was not let go.
-use Rattle.std.proofs.Common.{◌≡◌, ℕ, ◌+◌, ◌≤◌, ◌&&◌, Bool, true, false, cond, Option, Some, None, option_map, List, map, length, take, slice_get, refl, ap, ◌∙◌, arith, length-append}
-use Rattle.std.specs.Option.{option_and_then}
-use Rattle.std.specs.List.{filter_map}
-use Rattle.scope_rules.specs.declared.types.events.Event.{Event}
-use Rattle.scope_rules.specs.declared.types.events.Event.TheVariants.{Finish}
-use Rattle.scope_rules.specs.declared.types.records.Opening.{Opening}
-use Rattle.scope_rules.specs.declared.types.values.Completion.{Completion}
-use Rattle.scope_rules.specs.Answers.{is_available, value_in, entry_in, values_by, listing_by, answer_of}
-use Rattle.scope_rules.specs.Joining.{has_failed, has_succeeded}
-use Rattle.scope_rules.specs.Search.{earliest}
-use Rattle.scope_rules.specs.History.{History, before, tasks, opening, forked_count}
-use Rattle.scope_rules.specs.Scopes.{joins, joined}
-use Rattle.scope_rules.specs.Cancels.{cause}
-use Rattle.scope_rules.specs.Completions.{is_task_of}
-use Rattle.scope_rules.specs.Nests.{tasks_of}
-use Rattle.scope_rules.specs.Tasks.{state}
-use Rattle.scope_rules.specs.Outcomes.{readable, readable_at, first_read, readable_of, outcome_of, joining_at, joining, outcome}
-use Rattle.scope_log.specs.Folding.{Retirable, unretired, retired, NamesNone}
-use Rattle.scope_log.proofs.Splitting.{get_first, get_second, earliest_second, earliest_second_same, none_where}
-use Rattle.scope_log.proofs.Past.{IsScope, IsTask, greater, unjoined}
-use Rattle.scope_log.proofs.Numbered.{size, part, moved_opening, same_opening}
-use Rattle.scope_log.proofs.Named.{first_names, finished_named, then_moved, map_moved}
-use Rattle.scope_log.proofs.Completed.{past_completes, same_completion}
-use Rattle.scope_log.proofs.Cancelled.{same_cause}
-use Rattle.scope_log.proofs.Ranges.{filter_mapped, filter_listed}
-use Rattle.scope_log.proofs.Staged.{same_state, same_tasks_of}
+use Rattle.std.proofs.Common.{ℕ, ◌&&◌, ◌+◌, ◌∙◌, ◌≡◌, ◌≤◌, Bool, List, None, Option, Some, ap, arith, cond, false, length, length-append, map, option_map, refl, slice_get, take, true}
+use Rattle.scope_log.specs.{Completion, Event, Finish, History, NamesNone, Opening, Retirable, Words.cause, Words.joined, Words.outcome, Words.state, Words.tasks, answer_of, before, earliest, entry_in, filter_map, first_read}
+use Rattle.scope_log.specs.{forked_count, has_failed, has_succeeded, is_available, is_task_of, joining, joining_at, joins, listing_by, opening, option_and_then, outcome_of, readable, readable_at, readable_of, retired, tasks_of}
+use Rattle.scope_log.specs.{unretired, value_in, values_by}
+use Rattle.scope_log.proofs.{Cancelled.same_cause, Completed.past_completes, Completed.same_completion, Named.finished_named, Named.first_names, Named.map_moved, Named.then_moved, Numbered.moved_opening, Numbered.part}
+use Rattle.scope_log.proofs.{Numbered.same_opening, Numbered.size, Past.IsScope, Past.IsTask, Past.greater, Past.unjoined, Ranges.filter_listed, Ranges.filter_mapped, Splitting.earliest_second, Splitting.earliest_second_same}
+use Rattle.scope_log.proofs.{Splitting.get_first, Splitting.get_second, Splitting.none_where, Staged.same_state, Staged.same_tasks_of}
 
 module _ (r : Retirable) (es : List Event) (none : NamesNone r es) where
   unread : (test : Completion → Bool) (s i : ℕ) (o : Option Event) → IsScope r s → slice_get r.past.events i ≡ o → option_and_then (readable test (unretired r es) s) o ≡ None

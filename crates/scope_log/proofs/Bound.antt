@@ -1,19 +1,9 @@
 -- What actors that were not let go see bound.
-use Rattle.std.proofs.Common.{◌≡◌, ℕ, zero, suc, ◌+◌, ◌≤◌, ◌==◌, ◌&&◌, Bool, true, false, not, nat_le, Option, Some, None, List, [], ◌++◌, length, take, refl, ap, ◌∙◌, inl, inr}
-use Rattle.std.specs.Option.{option_map_or}
-use Rattle.scope_rules.specs.declared.types.events.Event.{Event}
-use Rattle.scope_rules.specs.declared.types.records.Opening.{Opening}
-use Rattle.scope_rules.specs.declared.types.records.Forking.{Forking}
-use Rattle.scope_rules.specs.History.{History, before, scopes, opening, forking}
-use Rattle.scope_rules.specs.Scopes.{closed}
-use Rattle.scope_rules.specs.Bindings.{stack, bindings_within, bindings, same_pairs, bound_as_at, bound_as_opened, opened_above, holds_last}
-use Rattle.scope_log.specs.Folding.{Retirable, unretired, retired, NamesNone}
-use Rattle.scope_log.proofs.Past.{IsScope, IsTask}
-use Rattle.scope_log.proofs.Numbered.{size, part, moved_opening, moved_forking, same_opening, same_forking}
-use Rattle.scope_log.proofs.Named.{first_names, forker_named, or_moved}
-use Rattle.scope_log.proofs.Standing.{same_closed, same_stack}
-use Rattle.scope_log.proofs.Nested.{gone_opening}
-use Rattle.scope_log.proofs.Ranges.{any_scopes}
+use Rattle.std.proofs.Common.{[], ℕ, ◌&&◌, ◌++◌, ◌+◌, ◌==◌, ◌∙◌, ◌≡◌, ◌≤◌, Bool, List, None, Option, Some, ap, false, inl, inr, length, nat_le, not, refl, suc, take, true, zero}
+use Rattle.scope_log.specs.{Event, Forking, History, NamesNone, Opening, Retirable, Words.bindings, Words.closed, Words.scopes, before, bindings_within, bound_as_at, bound_as_opened, forking, holds_last, opened_above, opening}
+use Rattle.scope_log.specs.{option_map_or, retired, same_pairs, stack, unretired}
+use Rattle.scope_log.proofs.{Named.first_names, Named.forker_named, Named.or_moved, Nested.gone_opening, Numbered.moved_forking, Numbered.moved_opening, Numbered.part, Numbered.same_forking, Numbered.same_opening, Numbered.size}
+use Rattle.scope_log.proofs.{Past.IsScope, Past.IsTask, Ranges.any_scopes, Standing.same_closed, Standing.same_stack}
 
 module _ (r : Retirable) where
   within_alike : (n : ℕ) (es : List Event) (a : ℕ) → NamesNone r es → IsTask r a → bindings_within (unretired r es) n a ≡ bindings_within (retired r es) n a

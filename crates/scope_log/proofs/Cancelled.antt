@@ -1,31 +1,12 @@
 -- What cancels a scope that was not let go: its own cancel and the first cancel are the same, at places that
 -- are moved.
-use Rattle.std.proofs.Common.{◌≡◌, ℕ, ◌+◌, ◌<◌, Bool, true, false, cond, nat_lt, max, Option, Some, None, option_map, is_some, List, ◌++◌, length, take, slice_get, refl, ap, ◌∙◌, arith, length-append}
-use Rattle.std.specs.Option.{option_or, option_and_then, option_map_or}
-use Rattle.std.proofs.lemmas.Bool.{lt-ltb, ltb-true}
-use Rattle.scope_rules.specs.declared.types.events.Event.{Event}
-use Rattle.scope_rules.specs.declared.types.events.Event.TheVariants.{BeginClose}
-use Rattle.scope_rules.specs.declared.types.answers.CauseKind.{CauseKind}
-use Rattle.scope_rules.specs.declared.types.answers.CauseKind.TheVariants.{Close, Joiner, Deadline}
-use Rattle.scope_rules.specs.declared.types.records.Opening.{Opening}
-use Rattle.scope_rules.specs.declared.types.records.OwnCancel.{OwnCancel}
-use Rattle.scope_rules.specs.declared.types.records.FirstCancel.{FirstCancel}
-use Rattle.scope_rules.specs.Search.{earliest}
-use Rattle.scope_rules.specs.History.{History, before, opening}
-use Rattle.scope_rules.specs.Scopes.{outer}
-use Rattle.scope_rules.specs.Cancels.{direct_kind, joiner_fires, overdue, kind_by, own_at, own, own_cancel, first_cancel, cause, is_cancelled, cancelled_at, cancelled_before, counting_deadline, effective}
-use Rattle.scope_rules.proofs.Bound.{same_truth}
-use Rattle.scope_rules.proofs.Earlier.{get_take}
-use Rattle.scope_log.specs.Folding.{Retirable, unretired, retired, NamesNone}
-use Rattle.scope_log.proofs.Splitting.{get_second, earliest_second}
-use Rattle.scope_log.proofs.Past.{IsScope}
-use Rattle.scope_log.proofs.Numbered.{size, part, part_of_past, moved_opening, same_opening}
-use Rattle.scope_log.proofs.Named.{first_names, begun_named, map_moved}
-use Rattle.scope_log.proofs.Standing.{same_overdue, same_counting}
-use Rattle.scope_log.proofs.Chained.{moved_cancel, still_some, cancel_alike, effective_alike}
-use Rattle.scope_log.proofs.Nested.{same_covers, same_outer, outer_new}
-use Rattle.scope_log.proofs.Closing.{unopened_before}
-use Rattle.scope_log.proofs.Completed.{same_fires}
+use Rattle.std.proofs.Common.{ℕ, ◌++◌, ◌+◌, ◌<◌, ◌∙◌, ◌≡◌, Bool, List, None, Option, Some, ap, arith, cond, false, is_some, length, length-append, max, nat_lt, option_map, refl, slice_get, take, true}
+use Rattle.scope_log.specs.{BeginClose, CauseKind, Close, Deadline, Event, FirstCancel, History, Joiner, NamesNone, Opening, OwnCancel, Retirable, Words.cause, before, cancelled_at, cancelled_before, counting_deadline}
+use Rattle.scope_log.specs.{direct_kind, earliest, effective, first_cancel, is_cancelled, joiner_fires, kind_by, opening, option_and_then, option_map_or, option_or, outer, overdue, own, own_at, own_cancel, retired, unretired}
+use Rattle.scope_log.proofs.Words.{get_take, lt-ltb, ltb-true, same_truth}
+use Rattle.scope_log.proofs.{Chained.cancel_alike, Chained.effective_alike, Chained.moved_cancel, Chained.still_some, Closing.unopened_before, Completed.same_fires, Named.begun_named, Named.first_names, Named.map_moved}
+use Rattle.scope_log.proofs.{Nested.outer_new, Nested.same_covers, Nested.same_outer, Numbered.moved_opening, Numbered.part, Numbered.part_of_past, Numbered.same_opening, Numbered.size, Past.IsScope, Splitting.earliest_second}
+use Rattle.scope_log.proofs.{Splitting.get_second, Standing.same_counting, Standing.same_overdue}
 
 abbrev pub moved_own : ℕ → OwnCancel → OwnCancel
 moved_own n w = record { place = n + w.place; kind = w.kind }

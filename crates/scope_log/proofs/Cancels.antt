@@ -1,20 +1,10 @@
 -- What cancels scopes is read of them without dues.
-use Rattle.std.proofs.Common.{◌≡◌, ℕ, ◌+◌, false, cond, Option, Some, None, option_map, is_some, slice_get, refl, ap, ap₂, ◌∙◌}
-use mathlib.Core.Path.{fun_ext}
-use Rattle.std.specs.Option.{option_and_then, option_or}
-use Rattle.scope_rules.specs.declared.types.events.Event.{Event}
-use Rattle.scope_rules.specs.declared.types.events.Event.TheVariants.{Fork, Finish, BeginClose}
-use Rattle.scope_rules.specs.declared.types.answers.CauseKind.{CauseKind}
-use Rattle.scope_rules.specs.declared.types.answers.CauseKind.TheVariants.{Close, Joiner, Deadline}
-use Rattle.scope_rules.specs.declared.types.records.Forking.{Forking}
-use Rattle.scope_rules.specs.declared.types.records.OwnCancel.{OwnCancel}
-use Rattle.scope_rules.specs.History.{History, before, opening, forking}
-use Rattle.scope_rules.specs.Completions.{is_task_of, completion_of, completions, completes}
-use Rattle.scope_rules.specs.Cancels.{move_of, deadline, overdue, direct_kind, joiner_fires, kind_by, own_at, own, own_cancel, first_cancel, is_cancelled, cancelled_at, cancelled_before}
-use Rattle.scope_log.specs.Dues.{without_due, without_dues}
-use Rattle.scope_log.proofs.Mapped.{last_mapped, filter_mapped, then_mapped, map_or_mapped}
-use Rattle.scope_log.proofs.Events.{without_before, without_length, without_at, same_moment, same_opening, same_forking, forking_without}
-use Rattle.scope_log.proofs.Scopes.{same_joined, same_outer, same_covers}
+use Rattle.std.proofs.Common.{ℕ, ◌+◌, ◌∙◌, ◌≡◌, None, Option, Some, ap, ap₂, cond, false, is_some, option_map, refl, slice_get}
+use Rattle.scope_log.specs.{BeginClose, CauseKind, Close, Deadline, Event, Finish, Fork, Forking, History, Joiner, OwnCancel, before, cancelled_at, cancelled_before, completes, completion_of, completions, deadline, direct_kind}
+use Rattle.scope_log.specs.{first_cancel, forking, is_cancelled, is_task_of, joiner_fires, kind_by, move_of, opening, option_and_then, option_or, overdue, own, own_at, own_cancel, without_due, without_dues}
+use Rattle.scope_log.proofs.Words.{fun_ext}
+use Rattle.scope_log.proofs.{Events.forking_without, Events.same_forking, Events.same_moment, Events.same_opening, Events.without_at, Events.without_before, Events.without_length, Mapped.filter_mapped, Mapped.last_mapped}
+use Rattle.scope_log.proofs.{Mapped.map_or_mapped, Mapped.then_mapped, Scopes.same_covers, Scopes.same_joined, Scopes.same_outer}
 
 move_same : (s : ℕ) (e : Event) → move_of s (without_due e) ≡ move_of s e
 move_same s (Fork actor scope label) = refl

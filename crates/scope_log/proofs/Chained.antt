@@ -1,10 +1,7 @@
 -- Chains along which two trees go alike.
-use Rattle.std.proofs.Common.{◌≡◌, ℕ, zero, suc, ◌+◌, Bool, true, false, cond, nat_le, Option, Some, None, option_map, is_some, List, ◌∷◌, refl, ap, ◌∙◌, arith}
-use Rattle.std.proofs.lemmas.Bool.{le-leb, leb-true}
-use Rattle.scope_rules.proofs.Bound.{same_truth}
-use Rattle.scope_rules.specs.declared.types.answers.Effective.TheVariants.{Past}
-use Rattle.scope_rules.specs.declared.types.records.FirstCancel.{FirstCancel}
-use Rattle.scope_rules.specs.Chains.{onward, outwards, chain_by, nearer, earliest_on, first_cancel_by, sooner, least_on, at_moment, effective_by}
+use Rattle.std.proofs.Common.{ℕ, ◌+◌, ◌∙◌, ◌∷◌, ◌≡◌, Bool, List, None, Option, Some, ap, arith, cond, false, is_some, nat_le, option_map, refl, suc, true, zero}
+use Rattle.scope_log.specs.{FirstCancel, Past, at_moment, chain_by, earliest_on, effective_by, first_cancel_by, least_on, nearer, onward, outwards, sooner}
+use Rattle.scope_log.proofs.Words.{le-leb, leb-true, same_truth}
 
 -- the first cancel, at a place that is moved
 abbrev pub moved_cancel : ℕ → FirstCancel → FirstCancel

@@ -1,44 +1,16 @@
 -- What is refused behind a retirement.
-use Rattle.std.proofs.Common.{◌≡◌, ℕ, ◌+◌, ◌≤◌, ◌==◌, ◌||◌, Bool, true, false, not, cond, nat_le, nat_lt, Option, Some, None, Ok, Err, is_some, List, [], ◌∷◌, ◌++◌, length, refl, ap, sym, subst, ◌∙◌, arith, inl, inr}
-use Rattle.std.specs.Option.{option_map_or}
-use Rattle.std.specs.List.{sum_by}
-use Rattle.std.proofs.lemmas.Bool.{lt-ltb, ltb-true, le-leb, leb-true}
-use Rattle.std.proofs.lemmas.List.Sums.{sum_by-append}
-use Rattle.scope_rules.specs.declared.types.capacity.Limits.{Limits}
-use Rattle.scope_rules.specs.declared.types.capacity.TheConstants.{GREATEST_NUMBER, LEVEL_LIMIT, OPEN_LOAD, FORK_LOAD, STEP_LOAD}
-use Rattle.scope_rules.specs.declared.types.events.Event.{Event}
-use Rattle.scope_rules.specs.declared.types.events.Options.{Options}
-use Rattle.scope_rules.specs.declared.types.joiners.Policy.{Policy}
-use Rattle.scope_rules.specs.declared.types.values.Label.{Label}
-use Rattle.scope_rules.specs.Ends.{EndValue}
-use Rattle.scope_rules.specs.declared.types.events.Event.TheVariants.{Open, Fork, Reject, Start, Finish, Cancel, Move, Tick, Bind, Unbind, Join, BeginClose, EndClose}
-use Rattle.scope_rules.specs.declared.types.refusals.Refusal.{Refusal}
-use Rattle.scope_rules.specs.declared.types.refusals.Refusal.TheVariants.{NoScope, NotOwner, Closed, AlreadyJoined, NotJoined, Structure, NoTask, WrongStage, ClockBack, TooMany, NotReady, NotBound, TooDeep, Retired}
-use Rattle.scope_rules.specs.declared.types.records.Opening.{Opening}
-use Rattle.scope_rules.specs.declared.types.records.Forking.{Forking}
-use Rattle.scope_rules.specs.History.{scopes, tasks, opened_count, forked_count, opening, forking}
-use Rattle.scope_rules.specs.Load.{weight, load, over_load, over_scopes, over_tasks}
-use Rattle.scope_rules.specs.Scopes.{joined, closed, closing, innermost}
-use Rattle.scope_rules.specs.Cancels.{is_cancelled}
-use Rattle.scope_rules.specs.Tasks.{stage, is_running, is_waiting}
-use Rattle.scope_rules.specs.Bindings.{stack}
-use Rattle.scope_rules.specs.Checks.{Checked, refuse_if, then_check, checks, refuse_full, scope_check, task_check, actor_check, owns, owner_check, refuse_closing, refuse_joined, in_closing, is_innermost, known_actor, known_scope, known_task}
-use Rattle.scope_rules.specs.Table.{check_of, is_already, owns_task, task_joined, reading_check, until_check, row_check}
+use Rattle.std.proofs.Common.{[], ℕ, ◌++◌, ◌+◌, ◌==◌, ◌||◌, ◌∙◌, ◌∷◌, ◌≡◌, ◌≤◌, Bool, Err, List, None, Ok, Option, Some, ap, arith, cond, false, inl, inr, is_some, length, nat_le, nat_lt, not, refl, subst, sym, true}
 use Rattle.scope_rules.proofs.Accepted.{or_left, or_right}
-use Rattle.scope_rules.proofs.Innermosts.{innermost_unclosed}
-use Rattle.scope_rules.proofs.Pushing.{stack_within}
-use Rattle.scope_log.specs.Folding.{is_let_go, names_let_go, Retirable, left, unretired, retired, NamesNone}
-use Rattle.scope_log.specs.RetiringLaws.{RefusesAlike}
-use Rattle.scope_log.proofs.Past.{IsScope, IsTask, fewer}
-use Rattle.scope_log.proofs.Numbered.{size, opened_so_far, forked_so_far, same_scopes, same_tasks, same_moment, moved_opening, moved_forking, same_opening, same_forking}
-use Rattle.scope_log.proofs.Named.{home_named, opened_new, or_moved}
-use Rattle.scope_log.proofs.Standing.{same_joined, same_closed, same_stack}
-use Rattle.scope_log.proofs.Chained.{still_some}
-use Rattle.scope_log.proofs.Nested.{same_innermost, same_next_level}
-use Rattle.scope_log.proofs.Closing.{same_closing}
-use Rattle.scope_log.proofs.Cancelled.{same_cancelled}
-use Rattle.scope_log.proofs.Staged.{same_stage, same_settled, same_ready}
-use Rattle.scope_log.proofs.Bound.{same_bound_as_opened, same_holds_last}
+use Rattle.scope_log.specs.{AlreadyJoined, BeginClose, Bind, Cancel, Checked, ClockBack, Closed, EndClose, EndValue, Event, FORK_LOAD, Finish, Fork, Forking, GREATEST_NUMBER, Join, LEVEL_LIMIT, Label, Limits, Move, NamesNone}
+use Rattle.scope_log.specs.{NoScope, NoTask, NotBound, NotJoined, NotOwner, NotReady, OPEN_LOAD, Open, Opening, Options, Policy, Refusal, RefusesAlike, Reject, Retirable, Retired, STEP_LOAD, Start, Structure, Tick, TooDeep}
+use Rattle.scope_log.specs.{TooMany, Unbind, Words.closed, Words.closing, Words.innermost, Words.joined, Words.scopes, Words.stage, Words.tasks, WrongStage, actor_check, check_of, checks, forked_count, forking, in_closing}
+use Rattle.scope_log.specs.{is_already, is_cancelled, is_innermost, is_let_go, is_running, is_waiting, known_actor, known_scope, known_task, left, load, names_let_go, opened_count, opening, option_map_or, over_load, over_scopes}
+use Rattle.scope_log.specs.{over_tasks, owner_check, owns, owns_task, reading_check, refuse_closing, refuse_full, refuse_if, refuse_joined, retired, row_check, scope_check, stack, sum_by, task_check, task_joined, then_check}
+use Rattle.scope_log.specs.{unretired, until_check, weight}
+use Rattle.scope_log.proofs.Words.{innermost_unclosed, le-leb, leb-true, lt-ltb, ltb-true, stack_within, sum_by-append}
+use Rattle.scope_log.proofs.Numbered.{forked_so_far, moved_forking, moved_opening, opened_so_far, same_forking, same_moment, same_opening, same_scopes, same_tasks, size}
+use Rattle.scope_log.proofs.{Bound.same_bound_as_opened, Bound.same_holds_last, Cancelled.same_cancelled, Chained.still_some, Closing.same_closing, Named.home_named, Named.opened_new, Named.or_moved, Nested.same_innermost}
+use Rattle.scope_log.proofs.{Nested.same_next_level, Past.IsScope, Past.IsTask, Past.fewer, Staged.same_ready, Staged.same_settled, Staged.same_stage, Standing.same_closed, Standing.same_joined, Standing.same_stack}
 
 -- ---- rows
 

@@ -1,18 +1,10 @@
 -- The checks of an event, and whether all is so already, are the same without dues.
-use Rattle.std.proofs.Common.{◌≡◌, ℕ, Option, Some, None, option_map, is_some, slice_get, refl, sym, ◌∙◌, subst}
-use Rattle.scope_rules.specs.declared.types.capacity.Limits.{Limits}
-use Rattle.scope_rules.specs.declared.types.events.Event.{Event}
-use Rattle.scope_rules.specs.declared.types.events.Event.TheVariants.{Open, Fork, Reject, Start, Finish, Cancel, Move, Tick, Bind, Unbind, Join, BeginClose, EndClose}
-use Rattle.scope_rules.specs.declared.types.records.Forking.{Forking}
-use Rattle.scope_rules.specs.History.{History, before, forking}
-use Rattle.scope_rules.specs.Legal.{Legal, Accepts}
-use Rattle.scope_rules.specs.Checks.{scope_check, task_check, actor_check, owns, in_closing, is_innermost, known_actor, known_scope, known_task}
-use Rattle.scope_rules.specs.Table.{check_of, is_already, row_check}
-use Rattle.scope_log.specs.Dues.{without_due, without_dues, LabelsDecideNothing, LegalWithoutDues}
-use Rattle.scope_log.proofs.Events.{without_before, without_at, same_opened, same_forked, same_load, same_moment, same_opening, same_forking, forking_without}
-use Rattle.scope_log.proofs.Scopes.{same_joined, same_closed, same_innermost, same_next_level, same_closing}
-use Rattle.scope_log.proofs.Cancels.{same_cancelled}
-use Rattle.scope_log.proofs.Tasks.{same_stage, same_settled, same_ready, same_stack, same_bound_as_opened, same_holds_last}
+use Rattle.std.proofs.Common.{ℕ, ◌∙◌, ◌≡◌, None, Option, Some, is_some, option_map, refl, slice_get, subst, sym}
+use Rattle.scope_log.specs.{Accepts, BeginClose, Bind, Cancel, EndClose, Event, Finish, Fork, Forking, History, Join, LabelsDecideNothing, Legal, LegalWithoutDues, Limits, Move, Open, Reject, Start, Tick, Unbind, actor_check}
+use Rattle.scope_log.specs.{before, check_of, forking, in_closing, is_already, is_innermost, known_actor, known_scope, known_task, owns, row_check, scope_check, task_check, without_due, without_dues}
+use Rattle.scope_log.proofs.{Cancels.same_cancelled, Events.forking_without, Events.same_forked, Events.same_forking, Events.same_load, Events.same_moment, Events.same_opened, Events.same_opening, Events.without_at}
+use Rattle.scope_log.proofs.{Events.without_before, Scopes.same_closed, Scopes.same_closing, Scopes.same_innermost, Scopes.same_joined, Scopes.same_next_level, Tasks.same_bound_as_opened, Tasks.same_holds_last, Tasks.same_ready}
+use Rattle.scope_log.proofs.{Tasks.same_settled, Tasks.same_stack, Tasks.same_stage}
 
 same_scope_check : (h : History) (s : ℕ) → scope_check (without_dues h) s ≡ scope_check h s
 unfolding known_scope

@@ -1,24 +1,10 @@
 -- How a scope that was not let go was closed.
-use Rattle.std.proofs.Common.{◌≡◌, ℕ, ◌+◌, ◌≤◌, ◌==◌, ◌&&◌, Bool, true, false, not, nat_lt, Option, Some, None, List, ◌++◌, length, take, slice_get, refl, ap, sym, ◌∙◌, inl, inr, ◌⊎◌, length-append}
-use Rattle.std.specs.Option.{option_map_or}
-use Rattle.std.proofs.lemmas.Bool.{ne_eqb, eqb-false}
-use Rattle.scope_rules.specs.declared.types.events.Event.{Event}
-use Rattle.scope_rules.specs.declared.types.events.Event.TheVariants.{BeginClose}
-use Rattle.scope_rules.specs.Search.{some_below}
-use Rattle.scope_rules.specs.History.{History, before, scopes, opening}
-use Rattle.scope_rules.specs.Scopes.{closed, have_one_opener, covers}
-use Rattle.scope_rules.specs.Verdicts.{covers_other, covers_another, begins_for, violating_at, violated, verdict}
-use Rattle.scope_rules.proofs.OneEventMore.{opening_later}
-use Rattle.scope_rules.proofs.PassedRows.{begin_close_passed}
-use Rattle.scope_log.specs.Folding.{Retirable, unretired, retired, NamesNone}
-use Rattle.scope_log.proofs.Splitting.{get_first, get_second, some_second}
-use Rattle.scope_log.proofs.Past.{IsScope, accepted, unopened}
-use Rattle.scope_log.proofs.Numbered.{size, part}
-use Rattle.scope_log.proofs.Standing.{same_joined}
-use Rattle.scope_log.proofs.Nested.{gone_opening, same_covers}
-use Rattle.scope_log.proofs.Closing.{no_opener}
-use Rattle.scope_log.proofs.Ranges.{any_scopes}
-use Rattle.scope_log.proofs.Staged.{same_has_tasks}
+use Rattle.std.proofs.Common.{ℕ, ◌&&◌, ◌++◌, ◌+◌, ◌==◌, ◌∙◌, ◌≡◌, ◌≤◌, ◌⊎◌, Bool, List, None, Option, Some, ap, false, inl, inr, length, length-append, nat_lt, not, refl, slice_get, sym, take, true}
+use Rattle.scope_log.specs.{BeginClose, Event, History, NamesNone, Retirable, Words.closed, Words.scopes, Words.verdict, before, begins_for, covers, covers_another, covers_other, have_one_opener, opening, option_map_or, retired}
+use Rattle.scope_log.specs.{some_below, unretired, violated, violating_at}
+use Rattle.scope_log.proofs.Words.{begin_close_passed, eqb-false, ne_eqb, opening_later}
+use Rattle.scope_log.proofs.{Closing.no_opener, Nested.gone_opening, Nested.same_covers, Numbered.part, Numbered.size, Past.IsScope, Past.accepted, Past.unopened, Ranges.any_scopes, Splitting.get_first, Splitting.get_second}
+use Rattle.scope_log.proofs.{Splitting.some_second, Staged.same_has_tasks, Standing.same_joined}
 
 nothing_of : (a b c : Bool) → (b ≡ true) ⊎ (c ≡ false) → (a && not b && c) ≡ false
 nothing_of false b c so = refl

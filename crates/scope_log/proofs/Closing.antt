@@ -1,21 +1,9 @@
 -- Whether a scope that was not let go is closing.
-use Rattle.std.proofs.Common.{◌≡◌, ℕ, ◌+◌, ◌<◌, ◌&&◌, Bool, true, false, not, nat_lt, Option, Some, None, List, ◌++◌, length, take, slice_get, refl, ap, sym, ◌∙◌, arith, length-append}
-use Rattle.std.specs.Option.{option_map_or}
-use Rattle.std.proofs.lemmas.Bool.{ne_eqb}
-use Rattle.scope_rules.specs.declared.types.events.Event.{Event}
-use Rattle.scope_rules.specs.declared.types.events.Event.TheVariants.{BeginClose}
-use Rattle.scope_rules.specs.declared.types.records.Opening.{Opening}
-use Rattle.scope_rules.specs.Search.{some_below}
-use Rattle.scope_rules.specs.History.{History, before, opening}
-use Rattle.scope_rules.specs.Scopes.{closed, have_one_opener, covers, begins_closing, closing_at, closing}
-use Rattle.scope_rules.proofs.OneEventMore.{opening_later}
-use Rattle.scope_rules.proofs.PassedRows.{begin_close_passed}
-use Rattle.scope_log.specs.Folding.{Retirable, unretired, retired, NamesNone}
-use Rattle.scope_log.proofs.Splitting.{get_first, get_second, some_second}
-use Rattle.scope_log.proofs.Past.{IsScope, accepted, unopened}
-use Rattle.scope_log.proofs.Numbered.{size, part, part_of_past}
-use Rattle.scope_log.proofs.Named.{begun_named}
-use Rattle.scope_log.proofs.Nested.{same_covers}
+use Rattle.std.proofs.Common.{ℕ, ◌&&◌, ◌++◌, ◌+◌, ◌<◌, ◌∙◌, ◌≡◌, Bool, List, None, Option, Some, ap, arith, false, length, length-append, nat_lt, not, refl, slice_get, sym, take, true}
+use Rattle.scope_log.specs.{BeginClose, Event, History, NamesNone, Opening, Retirable, Words.closed, Words.closing, before, begins_closing, closing_at, covers, have_one_opener, opening, option_map_or, retired, some_below}
+use Rattle.scope_log.specs.{unretired}
+use Rattle.scope_log.proofs.Words.{begin_close_passed, ne_eqb, opening_later}
+use Rattle.scope_log.proofs.{Named.begun_named, Nested.same_covers, Numbered.part, Numbered.part_of_past, Numbered.size, Past.IsScope, Past.accepted, Past.unopened, Splitting.get_first, Splitting.get_second, Splitting.some_second}
 
 none_before : {A : Type 0} (o : Option A) → ((x : A) → o ≡ Some x → ⊥) → o ≡ None
 none_before None never = refl

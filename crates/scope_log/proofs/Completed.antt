@@ -1,25 +1,10 @@
 -- Which tasks are those of a scope that was not let go, and which of them completed.
-use Rattle.std.proofs.Common.{◌≡◌, ℕ, ◌≤◌, ◌==◌, false, cond, Option, Some, None, option_map, List, slice_get, refl, ap, sym, ◌∙◌, arith}
-use Rattle.std.specs.Option.{option_or, option_map_or}
-use Rattle.std.proofs.lemmas.Bool.{ne_eqb}
-use Rattle.scope_rules.specs.declared.types.events.Event.{Event}
-use Rattle.scope_rules.specs.declared.types.events.Event.TheVariants.{Finish}
-use Rattle.scope_rules.specs.declared.types.records.Opening.{Opening}
-use Rattle.scope_rules.specs.declared.types.records.Forking.{Forking}
-use Rattle.scope_rules.specs.Joining.{fires}
-use Rattle.scope_rules.specs.History.{before, tasks, opening, forking}
-use Rattle.scope_rules.specs.Completions.{is_task_of, completion_of, completions, completes}
-use Rattle.scope_rules.specs.Cancels.{joiner_fires}
-use Rattle.scope_rules.proofs.Earlier.{task_given}
-use Rattle.scope_rules.proofs.Forkings.{forked_after}
-use Rattle.scope_rules.proofs.Nesting.{forked_opened}
-use Rattle.scope_rules.proofs.PassedRows.{finish_passed}
-use Rattle.scope_rules.proofs.Stages.{running_forked}
-use Rattle.scope_log.specs.Folding.{Retirable, unretired, retired, NamesNone}
-use Rattle.scope_log.proofs.Splitting.{filter_map_second}
-use Rattle.scope_log.proofs.Past.{IsScope, IsTask, accepted, unopened, forked_there}
-use Rattle.scope_log.proofs.Numbered.{size, moved_opening, moved_forking, forking_both, same_opening, same_forking}
-use Rattle.scope_log.proofs.Named.{finished_named, or_moved}
+use Rattle.std.proofs.Common.{ℕ, ◌==◌, ◌∙◌, ◌≡◌, ◌≤◌, List, None, Option, Some, ap, arith, cond, false, option_map, refl, slice_get, sym}
+use Rattle.scope_log.specs.{Event, Finish, Forking, NamesNone, Opening, Retirable, Words.tasks, before, completes, completion_of, completions, fires, forking, is_task_of, joiner_fires, opening, option_map_or, option_or, retired}
+use Rattle.scope_log.specs.{unretired}
+use Rattle.scope_log.proofs.Words.{finish_passed, forked_after, forked_opened, ne_eqb, running_forked, task_given}
+use Rattle.scope_log.proofs.{Named.finished_named, Named.or_moved, Numbered.forking_both, Numbered.moved_forking, Numbered.moved_opening, Numbered.same_forking, Numbered.same_opening, Numbered.size, Past.IsScope, Past.IsTask}
+use Rattle.scope_log.proofs.{Past.accepted, Past.forked_there, Past.unopened, Splitting.filter_map_second}
 
 module _ (r : Retirable) (es : List Event) where
   pub same_is_task : (s k : ℕ) → IsTask r k → is_task_of (unretired r es) s k ≡ is_task_of (retired r es) s k

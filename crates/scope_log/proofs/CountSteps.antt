@@ -1,17 +1,7 @@
 -- The count of the tasks of the entries so far, one entry more.
-use Rattle.std.proofs.Common.{◌≡◌, ℕ, ◌+◌, ◌<◌, ◌≤◌, cond, Option, Some, None, List, [], ◌∷◌, ◌++◌, length, take, get_or, count_by, refl, ap, sym, ◌∙◌, arith}
-use Rattle.std.proofs.lemmas.List.{append-nil, take_more}
-use Rattle.std.proofs.lemmas.List.Elements.{filter_map-append}
-use Rattle.std.proofs.lemmas.List.Sums.{sum_by-append}
-use Rattle.std.specs.Option.{option_map_or}
-use Rattle.std.specs.List.{filter_map, cons_option}
-use Rattle.scope_rules.specs.declared.types.answers.Counts.{Counts}
-use Rattle.scope_rules.specs.declared.types.answers.Stage.{Stage}
-use Rattle.scope_rules.specs.declared.types.answers.Stage.TheVariants.{Never, Waiting, Running, Finished}
-use Rattle.scope_rules.specs.Tasks.{is_stage}
-use Rattle.scope_log.specs.declared.entries.LogEntry.{LogEntry}
-use Rattle.scope_log.specs.LocalForms.{task_forked, stage_in, is_at_in, counts_of}
-use Rattle.scope_log.specs.Counting.{total, counted}
+use Rattle.std.proofs.Common.{[], ℕ, ◌++◌, ◌+◌, ◌<◌, ◌∙◌, ◌∷◌, ◌≡◌, ◌≤◌, List, None, Option, Some, ap, arith, cond, count_by, get_or, length, refl, sym, take}
+use Rattle.scope_log.specs.{Counts, Finished, LogEntry, Never, Running, Stage, Waiting, cons_option, counted, counts_of, filter_map, is_at_in, is_stage, option_map_or, stage_in, task_forked, total}
+use Rattle.scope_log.proofs.Words.{append-nil, filter_map-append, sum_by-append, take_more}
 
 abbrev pub tallied : ℕ → ℕ → ℕ → ℕ → Counts
 tallied never waiting running finished = record { never = never; waiting = waiting; running = running; finished = finished }

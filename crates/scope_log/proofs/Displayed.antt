@@ -1,24 +1,11 @@
 -- What there is to say of scopes and tasks that were not let go.
-use Rattle.std.proofs.Common.{◌≡◌, ℕ, ◌+◌, Bool, true, false, cond, nat_lt, Option, None, option_map, List, refl, ap, ◌∙◌, arith, ◌==◌, ◌&&◌, not, Some}
-use Rattle.std.specs.Option.{option_and_then}
-use Rattle.scope_rules.specs.declared.types.events.Event.{Event}
-use Rattle.scope_rules.specs.declared.types.records.Opening.{Opening}
-use Rattle.scope_rules.specs.declared.types.records.Forking.{Forking}
-use Rattle.scope_rules.specs.Search.{earliest}
-use Rattle.scope_rules.specs.History.{opened_count, scopes, opening, forking}
-use Rattle.scope_rules.specs.Scopes.{closed, unclosed_of}
-use Rattle.scope_rules.specs.Nests.{unclosed_after, next_unclosed, outermost, inner, label, scope_stage, info_of, info}
-use Rattle.scope_rules.proofs.Openings.{and_then_some, if_some}
-use Rattle.scope_rules.proofs.Searching.{earliest_where}
-use Rattle.scope_log.specs.Folding.{Retirable, unretired, retired, NamesNone}
-use Rattle.scope_log.proofs.Splitting.{earliest_second_same}
-use Rattle.scope_log.proofs.Past.{IsScope, IsTask, greater}
-use Rattle.scope_log.proofs.Numbered.{size, opened_so_far, moved_opening, moved_forking, same_opening, same_forking}
-use Rattle.scope_log.proofs.Named.{then_moved, map_moved}
-use Rattle.scope_log.proofs.Standing.{same_joined, same_closed, same_deadline}
-use Rattle.scope_log.proofs.Nested.{gone, later_scope, unclosed_later}
-use Rattle.scope_log.proofs.Closing.{same_closing}
-use Rattle.scope_log.proofs.Cancelled.{same_cause}
+use Rattle.std.proofs.Common.{ℕ, ◌&&◌, ◌+◌, ◌==◌, ◌∙◌, ◌≡◌, Bool, List, None, Option, Some, ap, arith, cond, false, nat_lt, not, option_map, refl, true}
+use Rattle.scope_log.specs.{Event, Forking, NamesNone, Opening, Retirable, Words.closed, Words.info, Words.inner, Words.label, Words.outermost, Words.scopes, earliest, forking, info_of, next_unclosed, opened_count, opening}
+use Rattle.scope_log.specs.{option_and_then, retired, scope_stage, unclosed_after, unclosed_of, unretired}
+use Rattle.scope_log.proofs.Words.{and_then_some, earliest_where, if_some}
+use Rattle.scope_log.proofs.{Cancelled.same_cause, Closing.same_closing, Named.map_moved, Named.then_moved, Nested.gone, Nested.later_scope, Nested.unclosed_later, Numbered.moved_forking, Numbered.moved_opening}
+use Rattle.scope_log.proofs.{Numbered.opened_so_far, Numbered.same_forking, Numbered.same_opening, Numbered.size, Past.IsScope, Past.IsTask, Past.greater, Splitting.earliest_second_same, Standing.same_closed}
+use Rattle.scope_log.proofs.{Standing.same_deadline, Standing.same_joined}
 
 module _ (r : Retirable) (es : List Event) where
   pub same_outermost : (a : ℕ) → outermost (unretired r es) a ≡ outermost (retired r es) a

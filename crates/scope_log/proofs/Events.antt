@@ -1,16 +1,9 @@
 -- What is read of the events of a history is read of it without dues.
-use Rattle.std.proofs.Common.{◌≡◌, ℕ, ◌+◌, ◌==◌, Bool, true, false, cond, Option, Some, None, option_map, List, [], ◌∷◌, length, take, map, slice_get, count_by, refl, ap, sym, ◌∙◌}
-use mathlib.Core.Path.{fun_ext}
-use Rattle.std.proofs.lemmas.List.{take-map, map-append, length-map}
-use Rattle.std.proofs.lemmas.Option.{slice_get-map}
-use Rattle.std.specs.Option.{option_and_then}
-use Rattle.scope_rules.specs.declared.types.events.Event.{Event}
-use Rattle.scope_rules.specs.declared.types.events.Event.TheVariants.{Fork}
-use Rattle.scope_rules.specs.declared.types.records.Forking.{Forking}
-use Rattle.scope_rules.specs.History.{History, before, followed, is_open, is_fork, opened_count, forked_count, opening_of, forking_of, numbered_at, opening, forking, tick_of, moment}
-use Rattle.scope_rules.specs.Load.{weight, load}
-use Rattle.scope_log.specs.Dues.{without_due, without_dues}
-use Rattle.scope_log.proofs.Mapped.{last_mapped, sum_mapped, count_mapped, earliest_mapped}
+use Rattle.std.proofs.Common.{[], ℕ, ◌+◌, ◌==◌, ◌∙◌, ◌∷◌, ◌≡◌, Bool, List, None, Option, Some, ap, cond, count_by, false, length, map, option_map, refl, slice_get, sym, take, true}
+use Rattle.scope_log.specs.{Event, Fork, Forking, History, Words.moment, before, followed, forked_count, forking, forking_of, is_fork, is_open, load, numbered_at, opened_count, opening, opening_of, option_and_then, tick_of}
+use Rattle.scope_log.specs.{weight, without_due, without_dues}
+use Rattle.scope_log.proofs.Words.{fun_ext, length-map, map-append, slice_get-map, take-map}
+use Rattle.scope_log.proofs.Mapped.{count_mapped, earliest_mapped, last_mapped, sum_mapped}
 
 open_same : (e : Event) → is_open (without_due e) ≡ is_open e
 open_same (Fork actor scope label) = refl

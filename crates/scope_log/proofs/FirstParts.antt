@@ -1,11 +1,8 @@
 -- The parts of a list before and after its first element that passes a test, if lists are put
 -- together.
-use Rattle.std.proofs.Common.{◌≡◌, ℕ, suc, ◌+◌, ◌||◌, Bool, true, false, not, cond, Option, Some, None, List, [], ◌∷◌, ◌++◌, take, drop, length, nat_lt, refl, ap, sym, ◌∙◌, arith}
-use Rattle.std.proofs.lemmas.Bool.{ltb-false, lt-ltb}
-use Rattle.std.proofs.lemmas.Bool.Decides.{nat_tests}
-use Rattle.std.proofs.lemmas.List.Sums.{prefix_len-le-length}
-use Rattle.std.specs.Option.{option_or, option_map_or, option_and_then}
-use Rattle.std.specs.List.{list_any, filter_map, cons_option, prefix_len, position, position_or_len, before_first, after_first}
+use Rattle.std.proofs.Common.{[], ℕ, ◌++◌, ◌+◌, ◌||◌, ◌∙◌, ◌∷◌, ◌≡◌, Bool, List, None, Option, Some, ap, arith, cond, drop, false, length, nat_lt, not, refl, suc, sym, take, true}
+use Rattle.scope_log.specs.{after_first, before_first, cons_option, filter_map, list_any, option_and_then, option_map_or, option_or, position, position_or_len, prefix_len}
+use Rattle.scope_log.proofs.Words.{lt-ltb, ltb-false, nat_tests, prefix_len-le-length}
 
 module _ {X : Type 0} (p : X → Bool) where
   take_by : (b : Bool) (n : ℕ) (x : X) (xs : List X) → take (cond (not b) (1 + n) 0) (x ∷ xs) ≡ cond b [] (x ∷ take n xs)

@@ -38,3 +38,4 @@ pub mod Cancels
 pub mod Tasks
 pub mod Checks
 pub mod Unchanged
+mod Words

@@ -1,35 +1,11 @@
 -- The tasks in the entries of a scope, in order, and what is counted and listed of them.
-use Rattle.std.proofs.Common.{◌≡◌, ℕ, zero, suc, ◌+◌, ◌<◌, ◌==◌, ◌&&◌, ◌||◌, Bool, true, false, not, cond, Option, Some, None, List, [], ◌∷◌, ◌++◌, count_by, refl, ap, sym, ◌∙◌, arith, zero-add}
-use Rattle.std.proofs.lemmas.Bool.{ne_eqb}
-use Rattle.std.proofs.lemmas.List.{append-nil}
-use Rattle.std.proofs.lemmas.List.Elements.{filter-append}
-use Rattle.std.specs.Option.{option_and_then, option_map_or}
-use Rattle.std.specs.List.{list_any, filter, cons_option, range_with_len}
-use Rattle.scope_rules.specs.declared.types.capacity.Limits.{Limits}
-use Rattle.scope_rules.specs.declared.types.answers.Stage.{Stage}
-use Rattle.scope_rules.specs.declared.types.answers.Stage.TheVariants.{Never, Waiting, Running, Finished}
-use Rattle.scope_rules.specs.declared.types.events.Event.{Event}
-use Rattle.scope_rules.specs.declared.types.events.Event.TheVariants.{Fork}
-use Rattle.scope_rules.specs.declared.types.records.Forking.{Forking}
-use Rattle.scope_rules.specs.History.{History, followed, tasks, forked_count, task_numbers, is_fork}
-use Rattle.scope_rules.specs.Cancels.{is_cancelled}
-use Rattle.scope_rules.specs.Completions.{is_task_of}
-use Rattle.scope_rules.specs.Tasks.{stage, state, is_stage, is_settled, is_at, counts, settled, ready}
-use Rattle.scope_rules.specs.Answers.{values_by, listing_by}
-use Rattle.scope_rules.specs.Nests.{tasks_of}
-use Rattle.scope_rules.specs.Legal.{Legal}
-use Rattle.scope_rules.proofs.Completions.{count_by-cons}
-use Rattle.scope_rules.proofs.Numbers.{range_push}
-use Rattle.scope_rules.proofs.OneEventMore.{along}
-use Rattle.scope_rules.proofs.Owing.{count_push}
-use Rattle.scope_rules.proofs.StageSteps.{next_forking}
-use Rattle.scope_rules.proofs.TaskLists.{values_same, listing_same}
-use Rattle.scope_log.specs.Log.{is_of, said, entry_of, entries}
-use Rattle.scope_log.specs.LocalForms.{task_forked, tasks_in, is_at_in, is_unsettled_in, counts_in, settled_in, ready_in, state_in}
-use Rattle.scope_log.proofs.CountSteps.{same_counts}
-use Rattle.scope_log.proofs.LogMarks.{gives_by, cond_none, and_false, marked, picks_grow}
-use Rattle.scope_log.proofs.LogStates.{state_told}
-use Rattle.scope_log.proofs.LogTasks.{forks_next, task_grows, stage_told}
+use Rattle.std.proofs.Common.{[], ℕ, ◌&&◌, ◌++◌, ◌+◌, ◌<◌, ◌==◌, ◌||◌, ◌∙◌, ◌∷◌, ◌≡◌, Bool, List, None, Option, Some, ap, arith, cond, count_by, false, not, refl, suc, sym, true, zero, zero-add}
+use Rattle.scope_log.specs.{Event, Finished, Fork, Forking, History, Legal, Limits, Never, Running, Stage, Waiting, Words.counts, Words.stage, Words.state, Words.tasks, cons_option, counts_in, entries, entry_of, filter, followed}
+use Rattle.scope_log.specs.{forked_count, is_at, is_at_in, is_cancelled, is_fork, is_of, is_settled, is_stage, is_task_of, is_unsettled_in, list_any, listing_by, option_and_then, option_map_or, range_with_len, ready, ready_in}
+use Rattle.scope_log.specs.{said, settled, settled_in, state_in, task_forked, task_numbers, tasks_in, tasks_of, values_by}
+use Rattle.scope_log.proofs.Words.{along, append-nil, count_by-cons, count_push, filter-append, listing_same, ne_eqb, next_forking, range_push, values_same}
+use Rattle.scope_log.proofs.{CountSteps.same_counts, LogMarks.and_false, LogMarks.cond_none, LogMarks.gives_by, LogMarks.marked, LogMarks.picks_grow, LogStates.state_told, LogTasks.forks_next, LogTasks.stage_told}
+use Rattle.scope_log.proofs.{LogTasks.task_grows}
 
 -- ---- the tasks in order
 

@@ -1,36 +1,11 @@
 -- The first completion that can be read of a scope is the first before its mark.
-use Rattle.std.proofs.Common.{◌≡◌, ℕ, zero, suc, ◌≤◌, ◌&&◌, ◌||◌, Bool, true, false, cond, Option, Some, None, Ok, Err, List, [], ◌∷◌, length, take, slice_get, refl, ap, sym, subst, ◌∙◌, arith, add-one}
-use Rattle.std.proofs.lemmas.Bool.{eq-eqb, both_ways, false_from_ne_true, or_left, or_right, and_right}
-use Rattle.std.proofs.lemmas.List.{take_all}
-use Rattle.std.proofs.lemmas.List.Folds.{find-append}
-use Rattle.std.specs.Option.{option_or, option_and_then}
-use Rattle.std.specs.List.{list_any, filter_map, find, cons_option}
-use Rattle.scope_rules.specs.declared.types.capacity.Limits.{Limits}
-use Rattle.scope_rules.specs.declared.types.answers.State.TheVariants.{Unavailable}
-use Rattle.scope_rules.specs.declared.types.events.Event.{Event}
-use Rattle.scope_rules.specs.declared.types.events.Event.TheVariants.{Finish}
-use Rattle.scope_rules.specs.declared.types.values.Completion.{Completion}
-use Rattle.scope_rules.specs.Ends.{EndValue}
-use Rattle.scope_rules.specs.Search.{earliest}
-use Rattle.scope_rules.specs.History.{History, followed}
-use Rattle.scope_rules.specs.Cancels.{is_cancelled}
-use Rattle.scope_rules.specs.Completions.{is_task_of, completion_of, completions}
-use Rattle.scope_rules.specs.Tasks.{finishes, finished, state, state_by_end}
-use Rattle.scope_rules.specs.Answers.{is_available}
-use Rattle.scope_rules.specs.Outcomes.{readable, first_read}
-use Rattle.scope_rules.specs.Legal.{Accepts, Legal}
-use Rattle.scope_rules.proofs.Accepted.{entry_at, running_task}
-use Rattle.scope_rules.proofs.CompletionSteps.{completions_grow}
-use Rattle.scope_rules.proofs.OneEventMore.{along}
-use Rattle.scope_rules.proofs.PassedRows.{finisher_passed, finish_passed}
-use Rattle.scope_rules.proofs.Prefixes.{take_at}
-use Rattle.scope_rules.proofs.StateSteps.{state_stays, state_ended}
-use Rattle.scope_log.specs.Log.{entries}
-use Rattle.scope_log.specs.LocalForms.{before_mark, completions_in, readable_in}
-use Rattle.scope_log.proofs.FirstParts.{first_of, first_of-append}
-use Rattle.scope_log.proofs.LogStates.{find_grows, unended}
-use Rattle.scope_log.proofs.LogTasks.{task_grows}
-use Rattle.scope_rules.proofs.Forkings.{task_there}
+use Rattle.std.proofs.Common.{[], ℕ, ◌&&◌, ◌||◌, ◌∙◌, ◌∷◌, ◌≡◌, ◌≤◌, Bool, Err, List, None, Ok, Option, Some, add-one, ap, arith, cond, false, length, refl, slice_get, subst, suc, sym, take, true, zero}
+use Rattle.std.proofs.lemmas.Bool.{or_left, or_right}
+use Rattle.scope_log.specs.{Accepts, Completion, EndValue, Event, Finish, History, Legal, Limits, Unavailable, Words.state, before_mark, completion_of, completions, completions_in, cons_option, earliest, entries, filter_map, find}
+use Rattle.scope_log.specs.{finished, finishes, first_read, followed, is_available, is_cancelled, is_task_of, list_any, option_and_then, option_or, readable, readable_in, state_by_end}
+use Rattle.scope_log.proofs.Words.{along, and_right, both_ways, completions_grow, entry_at, eq-eqb, false_from_ne_true, find-append, finish_passed, finisher_passed, running_task, state_ended, state_stays, take_all, take_at}
+use Rattle.scope_log.proofs.Words.{task_there}
+use Rattle.scope_log.proofs.{FirstParts.first_of, FirstParts.first_of-append, LogStates.find_grows, LogStates.unended, LogTasks.task_grows}
 
 -- ---- the same search, over the completions
 

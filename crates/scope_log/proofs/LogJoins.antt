@@ -1,46 +1,13 @@
 -- An accepted join answers what the log of its scope told, and adds itself alone to it; so the log tells
 -- what it would give.
-use Rattle.std.proofs.Common.{◌≡◌, ℕ, ◌≤◌, ◌&&◌, ◌||◌, Bool, true, false, not, cond, Option, Some, None, Ok, option_map, [], ◌∷◌, ◌++◌, length, slice_index, nat_le, refl, ap, sym, subst, ◌∙◌, arith}
-use Rattle.std.proofs.lemmas.Bool.{eq-eqb, false_from_ne_true}
-use Rattle.std.proofs.lemmas.List.{append-nil}
-use Rattle.std.proofs.lemmas.List.Folds.{list_any-append}
-use Rattle.std.specs.Option.{option_or, option_map_or}
-use Rattle.std.specs.List.{list_any, cons_option, before_first}
-use Rattle.scope_rules.specs.declared.types.answers.CauseKind.{CauseKind}
-use Rattle.scope_rules.specs.declared.types.answers.CauseKind.TheVariants.{Joiner, Deadline}
-use Rattle.scope_rules.specs.declared.types.capacity.Limits.{Limits}
-use Rattle.scope_rules.specs.declared.types.events.Event.{Event}
-use Rattle.scope_rules.specs.declared.types.events.Event.TheVariants.{Join}
-use Rattle.scope_rules.specs.declared.types.records.FirstCancel.{FirstCancel}
-use Rattle.scope_rules.specs.declared.types.records.Opening.{Opening}
-use Rattle.scope_rules.specs.declared.types.records.OwnCancel.{OwnCancel}
-use Rattle.scope_rules.specs.Origin.{Origin}
-use Rattle.scope_rules.specs.Chains.{chain_by}
-use Rattle.scope_rules.specs.Earliest.{IsEarliest}
-use Rattle.scope_rules.specs.Search.{earliest}
-use Rattle.scope_rules.specs.History.{History, followed, opening, moment}
-use Rattle.scope_rules.specs.Scopes.{joined, joins, outer}
-use Rattle.scope_rules.specs.Cancels.{direct_kind, joiner_fires, overdue, deadline, own, own_cancel, first_cancel, cause, is_cancelled}
-use Rattle.scope_rules.specs.Table.{check_of, row_check}
-use Rattle.scope_rules.specs.Legal.{Accepts, Legal}
-use Rattle.scope_rules.proofs.Accepted.{checks_at, not_refused}
-use Rattle.scope_rules.proofs.EarliestLaws.{cancel_earliest}
-use Rattle.scope_rules.proofs.Growing.{opening_stays, own_stays}
-use Rattle.scope_rules.proofs.Nesting.{IsOpened}
-use Rattle.scope_rules.proofs.OneEventMore.{along, opening_same, joined_grows}
-use Rattle.scope_rules.proofs.OwnSteps.{own_from, own_next}
-use Rattle.scope_rules.proofs.Pushing.{legal_push}
-use Rattle.scope_rules.proofs.Staying.{cancel_of, own_place, cancel_grows}
-use Rattle.scope_rules.proofs.Timed.{moment_grows, deadline_grows}
+use Rattle.std.proofs.Common.{[], ℕ, ◌&&◌, ◌++◌, ◌||◌, ◌∙◌, ◌∷◌, ◌≡◌, ◌≤◌, Bool, None, Ok, Option, Some, ap, arith, cond, false, length, nat_le, not, option_map, refl, slice_index, subst, sym, true}
+use Rattle.scope_log.specs.{Accepts, CauseKind, Deadline, Event, FirstCancel, History, IsEarliest, Join, Joiner, JoinsGoByLogs, Legal, Limits, LogValue, Opening, Origin, OwnCancel, Words.cause, Words.joined, Words.moment}
+use Rattle.scope_log.specs.{answer_in, before_first, before_join, chain_by, check_of, cons_option, deadline, direct_kind, earliest, entries_next, entry_of, first_cancel, followed, is_cancelled, is_join, joiner_fires, joins}
+use Rattle.scope_log.specs.{list_any, log, mark_next, mark_of, opening, option_map_or, option_or, outcome_in, outer, overdue, own, own_cancel, preview, preview_in, row_check, with_join}
+use Rattle.scope_log.proofs.Words.{IsOpened, along, append-nil, cancel_earliest, cancel_grows, cancel_of, checks_at, deadline_grows, eq-eqb, false_from_ne_true, joined_grows, legal_push, list_any-append, moment_grows, not_refused}
+use Rattle.scope_log.proofs.Words.{opening_same, opening_stays, own_from, own_next, own_place, own_stays}
+use Rattle.scope_log.proofs.{FirstParts.before_first-append, LogOutcomes.joined_told, LogTells.entries_there, LogTells.tells_outcome, NewLogs.log_grows, NewLogs.log_there}
 use Rattle.scope_log.specs.declared.entries.LogEntry.TheVariants as entry
-use Rattle.scope_log.specs.Log.{LogValue, entry_of, mark_of, mark_next, entries_next, log}
-use Rattle.scope_log.specs.LocalForms.{is_join, before_join, answer_in, outcome_in, with_join, preview_in}
-use Rattle.scope_log.specs.Previews.{preview}
-use Rattle.scope_log.specs.LogLaws.{JoinsGoByLogs}
-use Rattle.scope_log.proofs.FirstParts.{before_first-append}
-use Rattle.scope_log.proofs.LogOutcomes.{joined_told}
-use Rattle.scope_log.proofs.LogTells.{entries_there, tells_outcome}
-use Rattle.scope_log.proofs.NewLogs.{log_there, log_grows}
 
 -- ---- a join cancels nothing
 

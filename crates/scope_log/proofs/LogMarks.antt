@@ -1,29 +1,11 @@
 -- The mark in the entries of a scope, and what one event more adds before it and after it.
-use Rattle.std.proofs.Common.{◌≡◌, ℕ, ◌||◌, ◌&&◌, Bool, true, false, cond, Option, Some, None, option_map, is_some, List, [], ◌∷◌, ◌++◌, refl, ap, sym, ◌∙◌}
-use Rattle.std.proofs.lemmas.List.{append-nil}
-use Rattle.std.proofs.lemmas.List.Elements.{filter_map-append}
-use Rattle.std.proofs.lemmas.List.Folds.{list_any-append}
-use Rattle.std.specs.Option.{option_or, option_map_or, option_and_then}
-use Rattle.std.specs.List.{list_any, filter_map, cons_option, before_first, after_first}
-use Rattle.scope_rules.specs.declared.types.capacity.Limits.{Limits}
-use Rattle.scope_rules.specs.declared.types.answers.Cause.{Cause}
-use Rattle.scope_rules.specs.declared.types.events.Event.{Event}
-use Rattle.scope_rules.specs.declared.types.events.Event.TheVariants.{Tick}
-use Rattle.scope_rules.specs.declared.types.records.FirstCancel.{FirstCancel}
-use Rattle.scope_rules.specs.Origin.{Origin}
-use Rattle.scope_rules.specs.Search.{earliest}
-use Rattle.scope_rules.specs.History.{History, followed, opening}
-use Rattle.scope_rules.specs.Cancels.{first_cancel, cause, is_cancelled}
-use Rattle.scope_rules.specs.Legal.{Legal}
-use Rattle.scope_rules.proofs.OneEventMore.{along}
-use Rattle.scope_rules.proofs.Staying.{cancel_stays}
-use Rattle.scope_log.specs.declared.entries.LogEntry.{LogEntry}
+use Rattle.std.proofs.Common.{[], ℕ, ◌&&◌, ◌++◌, ◌||◌, ◌∙◌, ◌∷◌, ◌≡◌, Bool, List, None, Option, Some, ap, cond, false, is_some, option_map, refl, sym, true}
+use Rattle.scope_log.specs.{Cause, Event, FirstCancel, History, Legal, Limits, LogEntry, Origin, Tick, Words.cause, after_first, after_mark, before_first, before_mark, cause_in, cause_said, cons_option, earliest, entries}
+use Rattle.scope_log.specs.{entries_next, entry_of, filter_map, first_cancel, followed, is_cancelled, is_mark, is_of, list_any, mark_next, mark_of, opening, option_and_then, option_map_or, option_or, said}
+use Rattle.scope_log.proofs.Words.{along, append-nil, cancel_stays, filter_map-append, list_any-append}
+use Rattle.scope_log.proofs.{FirstParts.after_first-append, FirstParts.after_first-cons, FirstParts.after_first_none, FirstParts.any_of_two, FirstParts.before_first-append, FirstParts.before_first-cons}
+use Rattle.scope_log.proofs.{FirstParts.before_first_none, FirstParts.first_of, FirstParts.first_of-append, FirstParts.first_of_two, FirstParts.pick_two, LogSteps.entries_grow, NewLogs.no_first_cancel}
 use Rattle.scope_log.specs.declared.entries.LogEntry.TheVariants as entry
-use Rattle.scope_log.specs.Log.{is_of, said, entry_of, mark_of, entries, mark_next, entries_next}
-use Rattle.scope_log.specs.LocalForms.{is_mark, cause_said, cause_in, before_mark, after_mark}
-use Rattle.scope_log.proofs.FirstParts.{first_of, before_first-cons, after_first-cons, before_first-append, after_first-append, before_first_none, after_first_none, first_of-append, first_of_two, any_of_two, pick_two}
-use Rattle.scope_log.proofs.LogSteps.{entries_grow}
-use Rattle.scope_log.proofs.NewLogs.{no_first_cancel}
 
 -- ---- the entry of an event
 

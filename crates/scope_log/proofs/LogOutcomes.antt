@@ -1,36 +1,13 @@
 -- What a join answered, by the entries before it.
-use Rattle.std.proofs.Common.{◌≡◌, ℕ, suc, ◌<◌, ◌==◌, ◌&&◌, ◌||◌, Bool, true, false, cond, Option, Some, None, option_map, [], ◌∷◌, ◌++◌, length, refl, ap, sym, ◌∙◌, arith, length-append}
+use Rattle.std.proofs.Common.{[], ℕ, ◌&&◌, ◌++◌, ◌<◌, ◌==◌, ◌||◌, ◌∙◌, ◌∷◌, ◌≡◌, Bool, None, Option, Some, ap, arith, cond, false, length, length-append, option_map, refl, suc, sym, true}
 use Rattle.std.proofs.lemmas.Bool.{or_right}
-use Rattle.std.proofs.lemmas.List.{append-nil}
-use Rattle.std.specs.Option.{option_or, option_map_or, option_and_then}
-use Rattle.std.specs.List.{list_any, cons_option, before_first}
-use Rattle.scope_rules.specs.declared.types.capacity.Limits.{Limits}
-use Rattle.scope_rules.specs.declared.types.events.Event.{Event}
-use Rattle.scope_rules.specs.declared.types.events.Event.TheVariants.{Join}
-use Rattle.scope_rules.specs.declared.types.records.Opening.{Opening}
-use Rattle.scope_rules.specs.Origin.{Origin}
-use Rattle.scope_rules.specs.Search.{earliest}
-use Rattle.scope_rules.specs.Joining.{has_failed, has_succeeded}
-use Rattle.scope_rules.specs.History.{History, before, followed, opening}
-use Rattle.scope_rules.specs.Scopes.{joins, joined}
-use Rattle.scope_rules.specs.Cancels.{cause}
-use Rattle.scope_rules.specs.Answers.{answer_of}
-use Rattle.scope_rules.specs.Outcomes.{readable_of, outcome_of, joining_at, joining, outcome}
-use Rattle.scope_rules.specs.Legal.{Legal}
-use Rattle.scope_rules.proofs.Answered.{joining_inside, joining_stays}
-use Rattle.scope_rules.proofs.Nesting.{legal_before}
-use Rattle.scope_rules.proofs.OneEventMore.{along, last_event, joined_grows}
-use Rattle.scope_rules.proofs.Prefixes.{get_push}
-use Rattle.scope_rules.proofs.Pushing.{before_push, before_last}
-use Rattle.scope_rules.proofs.Searching.{earliest_same}
+use Rattle.scope_log.specs.{Event, History, Join, Legal, Limits, LogValue, Opening, Origin, Words.cause, Words.joined, Words.outcome, answer_in, answer_of, before, before_first, before_join, cons_option, earliest, entries}
+use Rattle.scope_log.specs.{entries_next, followed, has_failed, has_succeeded, is_join, is_of, joining, joining_at, joins, list_any, mark_next, opening, option_and_then, option_map_or, option_or, outcome_in, outcome_of}
+use Rattle.scope_log.specs.{readable_of, readings_in, said}
+use Rattle.scope_log.proofs.Words.{along, append-nil, before_last, before_push, earliest_same, get_push, joined_grows, joining_inside, joining_stays, last_event, legal_before}
+use Rattle.scope_log.proofs.{FirstParts.before_first-append, LogCounts.listing_told, LogCounts.values_told, LogFirsts.first_told, LogMarks.and_false, LogMarks.any_grows, LogMarks.cause_told, LogMarks.tells, LogMarks.tells_by}
+use Rattle.scope_log.proofs.{LogSteps.entries_grow}
 use Rattle.scope_log.specs.declared.entries.LogEntry.TheVariants as entry
-use Rattle.scope_log.specs.Log.{LogValue, is_of, said, entries, mark_next, entries_next}
-use Rattle.scope_log.specs.LocalForms.{is_join, before_join, outcome_in, readings_in, answer_in}
-use Rattle.scope_log.proofs.FirstParts.{before_first-append}
-use Rattle.scope_log.proofs.LogCounts.{values_told, listing_told}
-use Rattle.scope_log.proofs.LogFirsts.{first_told}
-use Rattle.scope_log.proofs.LogMarks.{tells, tells_by, and_false, any_grows, cause_told}
-use Rattle.scope_log.proofs.LogSteps.{entries_grow}
 
 -- ---- the join
 

@@ -1,14 +1,7 @@
 -- The entries of a scope, place by place.
-use Rattle.std.proofs.Common.{◌≡◌, ℕ, ◌+◌, cond, Option, Some, None, Ok, [], ◌∷◌, ◌++◌, slice_get, refl, ap, sym, ◌∙◌, arith, append_assoc}
-use Rattle.std.specs.List.{flat_map, range_with_len, cons_option}
-use Rattle.scope_rules.specs.declared.types.events.Event.{Event}
-use Rattle.scope_rules.specs.declared.types.events.Event.TheVariants.{Fork}
-use Rattle.scope_rules.specs.History.{History, before, is_fork, tasks}
-use Rattle.scope_rules.specs.Checks.{scope_check}
-use Rattle.scope_rules.proofs.NewScopes.{scope_passed}
-use Rattle.scope_rules.proofs.Prefixes.{count_by_at_yes}
-use Rattle.scope_log.specs.declared.entries.LogEntry.{LogEntry}
-use Rattle.scope_log.specs.Log.{is_of, said, said_with, entry_at, mark_at, entries_at, log}
+use Rattle.std.proofs.Common.{[], ℕ, ◌++◌, ◌+◌, ◌∙◌, ◌∷◌, ◌≡◌, None, Ok, Option, Some, ap, append_assoc, arith, cond, refl, slice_get, sym}
+use Rattle.scope_log.specs.{Event, Fork, History, LogEntry, Words.tasks, before, cons_option, entries_at, entry_at, flat_map, is_fork, is_of, log, mark_at, range_with_len, said, said_with, scope_check}
+use Rattle.scope_log.proofs.Words.{count_by_at_yes, scope_passed}
 use Rattle.scope_log.proofs.LogSteps.{flat_map_more}
 
 -- a fork's task is the last that is numbered once it is there

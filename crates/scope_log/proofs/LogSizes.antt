@@ -1,16 +1,7 @@
 -- How long a log can get.
-use Rattle.std.proofs.Common.{◌≡◌, ℕ, ◌+◌, ◌<◌, ◌≤◌, ◌^◌, [], ◌∷◌, length, refl, arith, length-append}
-use Rattle.scope_rules.specs.declared.types.capacity.Limits.{Limits}
-use Rattle.scope_rules.specs.declared.types.capacity.TheConstants.{LOAD_LIMIT}
-use Rattle.scope_rules.specs.Origin.{Origin}
-use Rattle.scope_rules.specs.History.{History}
-use Rattle.scope_rules.specs.Load.{load}
-use Rattle.scope_rules.specs.Owed.{owed, missing}
-use Rattle.scope_rules.specs.Legal.{Legal, IsWithin}
-use Rattle.scope_rules.proofs.OneEventMore.{along}
-use Rattle.scope_rules.proofs.Owing.{owed_event}
-use Rattle.scope_rules.proofs.Pushing.{load_push}
-use Rattle.scope_log.specs.Log.{entries}
+use Rattle.std.proofs.Common.{[], ℕ, ◌+◌, ◌<◌, ◌^◌, ◌∷◌, ◌≡◌, ◌≤◌, arith, length, length-append, refl}
+use Rattle.scope_log.specs.{History, IsWithin, LOAD_LIMIT, Legal, Limits, Origin, entries, load, missing, owed}
+use Rattle.scope_log.proofs.Words.{along, load_push, owed_event}
 use Rattle.scope_log.proofs.MarkPlaces.{entries_short}
 
 owed_start : (b : Origin) → owed (record { base = b; events = [] }) ≡ 0

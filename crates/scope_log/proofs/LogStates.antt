@@ -1,41 +1,13 @@
 -- The completions in the entries of a scope, and which of them can be read.
-use Rattle.std.proofs.Common.{◌≡◌, ℕ, ◌+◌, ◌==◌, ◌&&◌, ◌||◌, Bool, true, false, cond, Option, Some, None, List, [], ◌∷◌, ◌++◌, length, refl, ap, sym, ◌∙◌, arith, inl, inr}
-use Rattle.std.proofs.lemmas.Bool.{eqb-true, eq-eqb, false_from_ne_true, or_left, or_parts}
-use Rattle.std.proofs.lemmas.List.Elements.{filter_map-append}
-use Rattle.std.proofs.lemmas.List.Folds.{find-append}
-use Rattle.std.specs.Option.{option_or, option_map_or, option_and_then}
-use Rattle.std.specs.List.{list_any, filter_map, find, cons_option, before_first}
-use Rattle.scope_rules.specs.declared.types.capacity.Limits.{Limits}
-use Rattle.scope_rules.specs.declared.types.answers.State.{State}
-use Rattle.scope_rules.specs.declared.types.answers.State.TheVariants.{Unavailable}
-use Rattle.scope_rules.specs.declared.types.events.Event.{Event}
-use Rattle.scope_rules.specs.declared.types.events.Event.TheVariants.{Fork, Finish}
-use Rattle.scope_rules.specs.declared.types.records.Ending.{Ending}
-use Rattle.scope_rules.specs.declared.types.records.Forking.{Forking}
-use Rattle.scope_rules.specs.declared.types.values.Completion.{Completion}
-use Rattle.scope_rules.specs.Origin.{Origin}
-use Rattle.scope_rules.specs.Search.{earliest}
-use Rattle.scope_rules.specs.History.{History, followed, tasks, forking}
-use Rattle.scope_rules.specs.Cancels.{is_cancelled}
-use Rattle.scope_rules.specs.Completions.{is_task_of, completion_of, completions}
-use Rattle.scope_rules.specs.Tasks.{finishes, finished, ending_of, state, state_of, state_by_end}
-use Rattle.scope_rules.specs.Legal.{Accepts, Legal}
-use Rattle.scope_rules.proofs.Accepted.{running_task}
-use Rattle.scope_rules.proofs.CompletionSteps.{completions_grow}
-use Rattle.scope_rules.proofs.Earlier.{forking_shown}
-use Rattle.scope_rules.proofs.Forkings.{forked_after}
-use Rattle.scope_rules.proofs.OneEventMore.{along, finished_grows, forking_split}
-use Rattle.scope_rules.proofs.PassedRows.{finisher_passed}
-use Rattle.scope_rules.proofs.StageSteps.{finished_forked}
-use Rattle.scope_rules.proofs.StateSteps.{no_ending, state_is, state_stays, state_ended}
-use Rattle.scope_log.specs.declared.entries.LogEntry.{LogEntry}
+use Rattle.std.proofs.Common.{[], ℕ, ◌&&◌, ◌++◌, ◌+◌, ◌==◌, ◌||◌, ◌∙◌, ◌∷◌, ◌≡◌, Bool, List, None, Option, Some, ap, arith, cond, false, inl, inr, length, refl, sym, true}
+use Rattle.std.proofs.lemmas.Bool.{or_left}
+use Rattle.scope_log.specs.{Accepts, Completion, Ending, Event, Finish, Fork, Forking, History, Legal, Limits, LogEntry, Origin, State, Unavailable, Words.state, Words.tasks, before_first, before_mark, completion_of}
+use Rattle.scope_log.specs.{completion_said, completions, completions_in, cons_option, earliest, ending_of, entries, entry_of, filter_map, find, finished, finishes, finishes_task, followed, forking, is_cancelled, is_end_of}
+use Rattle.scope_log.specs.{is_mark, is_of, is_task_of, list_any, option_and_then, option_map_or, option_or, readable_in, said, state_by_end, state_in, state_of}
+use Rattle.scope_log.proofs.Words.{along, completions_grow, eq-eqb, eqb-true, false_from_ne_true, filter_map-append, find-append, finished_forked, finished_grows, finisher_passed, forked_after, forking_shown, forking_split}
+use Rattle.scope_log.proofs.Words.{no_ending, or_parts, running_task, state_ended, state_is, state_stays, task_there}
+use Rattle.scope_log.proofs.{FirstParts.before_first-cons, FirstParts.pick_one, LogMarks.cond_none, LogMarks.gives_by, LogMarks.parted, LogMarks.picks_grow, LogTasks.finished_told, LogTasks.task_grows}
 use Rattle.scope_log.specs.declared.entries.LogEntry.TheVariants as entry
-use Rattle.scope_log.specs.Log.{is_of, said, entry_of, entries}
-use Rattle.scope_log.specs.LocalForms.{before_mark, is_mark, finishes_task, completion_said, completions_in, readable_in, is_end_of, state_in}
-use Rattle.scope_log.proofs.FirstParts.{before_first-cons, pick_one}
-use Rattle.scope_log.proofs.LogMarks.{gives_by, cond_none, parted, picks_grow}
-use Rattle.scope_log.proofs.LogTasks.{task_grows, finished_told}
-use Rattle.scope_rules.proofs.Forkings.{task_there}
 
 -- ---- completions
 

@@ -1,28 +1,10 @@
 -- What one event more adds to the log of a scope.
-use Rattle.std.proofs.Common.{◌≡◌, ◌≢◌, ℕ, zero, suc, ◌+◌, ◌<◌, ◌≤◌, ◌==◌, cond, Option, Some, None, option_map, List, [], ◌∷◌, ◌++◌, length, max, refl, ap, sym, ◌∙◌, arith, length-append, inl, inr}
-use Rattle.std.proofs.lemmas.Bool.{ne_eqb, eq-eqb}
-use Rattle.std.proofs.lemmas.List.{append-nil}
-use Rattle.std.proofs.lemmas.List.Concat.{flat_map-append}
-use Rattle.std.specs.Option.{option_and_then}
-use Rattle.std.specs.List.{flat_map, range_with_len, cons_option}
-use Rattle.scope_rules.specs.declared.types.capacity.Limits.{Limits}
-use Rattle.scope_rules.specs.declared.types.events.Event.{Event}
-use Rattle.scope_rules.specs.declared.types.records.FirstCancel.{FirstCancel}
-use Rattle.scope_rules.specs.declared.types.records.Opening.{Opening}
-use Rattle.scope_rules.specs.History.{History, followed, opening}
-use Rattle.scope_rules.specs.Cancels.{first_cancel, cause, is_cancelled, cancelled_at}
-use Rattle.scope_rules.specs.Legal.{Legal}
-use Rattle.scope_rules.proofs.ChainsGrow.{cancel_new}
-use Rattle.scope_rules.proofs.Earlier.{opening_within}
-use Rattle.scope_rules.proofs.Growing.{opening_stays, opening_place}
-use Rattle.scope_rules.proofs.Numbers.{range_push}
-use Rattle.scope_rules.proofs.OneEventMore.{last_event, opening_split}
-use Rattle.scope_rules.proofs.Prefixes.{get_push}
-use Rattle.scope_rules.proofs.Pushing.{before_push, before_last}
-use Rattle.scope_rules.proofs.Staying.{cancel_opened, cancel_stays, cancel_within_history}
-use Rattle.scope_log.specs.declared.entries.LogEntry.{LogEntry}
+use Rattle.std.proofs.Common.{[], ℕ, ◌++◌, ◌+◌, ◌<◌, ◌==◌, ◌∙◌, ◌∷◌, ◌≡◌, ◌≢◌, ◌≤◌, List, None, Option, Some, ap, arith, cond, inl, inr, length, length-append, max, option_map, refl, suc, sym, zero}
+use Rattle.scope_log.specs.{Event, FirstCancel, History, Legal, Limits, LogEntry, Opening, Words.cause, cancelled_at, cons_option, entries, entries_at, entries_next, entry_at, entry_of, first_cancel, flat_map, followed}
+use Rattle.scope_log.specs.{is_cancelled, mark_at, mark_next, mark_of, opening, option_and_then, range_with_len}
+use Rattle.scope_log.proofs.Words.{append-nil, before_last, before_push, cancel_new, cancel_opened, cancel_stays, cancel_within_history, eq-eqb, flat_map-append, get_push, last_event, ne_eqb, opening_place, opening_split}
+use Rattle.scope_log.proofs.Words.{opening_stays, opening_within, range_push}
 use Rattle.scope_log.specs.declared.entries.LogEntry.TheVariants as entry
-use Rattle.scope_log.specs.Log.{entry_of, entry_at, mark_of, mark_at, entries_at, entries, mark_next, entries_next}
 
 -- ---- marks
 

@@ -1,37 +1,14 @@
 -- The tasks in the entries of a scope: which there are, and how far they came.
-use Rattle.std.proofs.Common.{◌≡◌, ◌≢◌, ℕ, ◌+◌, ◌==◌, ◌&&◌, ◌||◌, Bool, true, false, cond, Option, Some, None, [], length, refl, ap, sym, subst, ◌∙◌, arith, inl, inr}
-use Rattle.std.proofs.lemmas.Bool.{eqb-true, ne_eqb, eq-eqb, or_cases, or_right}
-use Rattle.std.proofs.lemmas.List.Folds.{list_any-append}
-use Rattle.std.specs.Option.{option_map_or}
-use Rattle.std.specs.List.{list_any, cons_option}
-use Rattle.scope_rules.specs.declared.types.capacity.Limits.{Limits}
-use Rattle.scope_rules.specs.declared.types.answers.Cause.{Cause}
-use Rattle.scope_rules.specs.declared.types.events.Event.{Event}
-use Rattle.scope_rules.specs.declared.types.events.Event.TheVariants.{Fork, Reject, Start, Finish}
-use Rattle.scope_rules.specs.declared.types.records.Forking.{Forking}
-use Rattle.scope_rules.specs.Origin.{Origin}
-use Rattle.scope_rules.specs.Search.{earliest}
-use Rattle.scope_rules.specs.History.{History, followed, tasks, forking}
-use Rattle.scope_rules.specs.Cancels.{is_cancelled, cancelled_before}
-use Rattle.scope_rules.specs.Completions.{is_task_of}
-use Rattle.scope_rules.specs.Tasks.{rejects, rejected, starts, started, finishes, finished, stage}
-use Rattle.scope_rules.specs.Legal.{Accepts, Legal}
-use Rattle.scope_rules.proofs.CompletionSteps.{is_task_stays}
-use Rattle.scope_rules.proofs.ChainsGrow.{cancelled_before_stays, cancelled_by_now}
-use Rattle.scope_rules.proofs.Earlier.{forking_within, forking_shown}
-use Rattle.scope_rules.proofs.Forkings.{IsForked, forked_after}
-use Rattle.scope_rules.proofs.Nesting.{IsOpened, forked_opened}
-use Rattle.scope_rules.proofs.OneEventMore.{along, forking_grows, forking_same, forking_split, rejected_grows, started_grows, finished_grows}
-use Rattle.scope_rules.proofs.PassedRows.{fork_passed, rejecter_passed, starter_passed, finisher_passed}
-use Rattle.scope_rules.proofs.Stages.{same_staged, stage_is, waiting_forked, running_forked}
-use Rattle.scope_rules.proofs.StageSteps.{rejected_forked, started_forked, finished_forked}
-use Rattle.scope_log.specs.declared.entries.LogEntry.{LogEntry}
+use Rattle.std.proofs.Common.{[], ℕ, ◌&&◌, ◌+◌, ◌==◌, ◌||◌, ◌∙◌, ◌≡◌, ◌≢◌, Bool, None, Option, Some, ap, arith, cond, false, inl, inr, length, refl, subst, sym, true}
+use Rattle.std.proofs.lemmas.Bool.{or_right}
+use Rattle.scope_log.specs.{Accepts, Cause, Event, Finish, Fork, Forking, History, Legal, Limits, LogEntry, Origin, Reject, Start, Words.stage, Words.tasks, after_mark, cancelled_before, cons_option, earliest, entries, entry_of}
+use Rattle.scope_log.specs.{finished, finishes, finishes_task, followed, forking, forks_task, is_cancelled, is_mark, is_never_in, is_of, is_task_of, list_any, option_map_or, rejected, rejects, rejects_task, said, stage_in}
+use Rattle.scope_log.specs.{started, starts, starts_task}
+use Rattle.scope_log.proofs.Words.{IsForked, IsOpened, along, cancelled_before_stays, cancelled_by_now, eq-eqb, eqb-true, finished_forked, finished_grows, finisher_passed, fork_passed, forked_after, forked_opened, forking_grows}
+use Rattle.scope_log.proofs.Words.{forking_same, forking_shown, forking_split, forking_within, is_task_stays, list_any-append, ne_eqb, or_cases, rejected_forked, rejected_grows, rejecter_passed, running_forked, same_staged}
+use Rattle.scope_log.proofs.Words.{stage_is, started_forked, started_grows, starter_passed, task_there, waiting_forked}
+use Rattle.scope_log.proofs.{FirstParts.after_first_none, LogMarks.and_false, LogMarks.any_grows, LogMarks.marked, LogMarks.parted, LogMarks.tells, LogMarks.tells_by}
 use Rattle.scope_log.specs.declared.entries.LogEntry.TheVariants as entry
-use Rattle.scope_log.specs.Log.{is_of, said, entry_of, entries}
-use Rattle.scope_log.specs.LocalForms.{is_mark, after_mark, forks_task, rejects_task, starts_task, finishes_task, is_never_in, stage_in}
-use Rattle.scope_log.proofs.FirstParts.{after_first_none}
-use Rattle.scope_log.proofs.LogMarks.{tells, tells_by, and_false, marked, parted, any_grows}
-use Rattle.scope_rules.proofs.Forkings.{task_there}
 
 -- ---- which tasks there are
 

@@ -1,16 +1,9 @@
 -- The log of a scope tells what the history says of it.
-use Rattle.std.proofs.Common.{◌≡◌, ℕ, Some, ap, ◌∙◌}
-use Rattle.scope_rules.specs.declared.types.records.Opening.{Opening}
-use Rattle.scope_rules.specs.History.{History}
-use Rattle.scope_log.specs.Log.{LogValue, entries, log}
-use Rattle.scope_log.specs.LocalForms.{cause_in, tasks_in, stage_in, state_in, counts_in, settled_in, ready_in, completions_in, answer_in, outcome_in}
-use Rattle.scope_log.specs.LogLaws.{LogTellsCause, LogTellsTasks, LogTellsStages, LogTellsStates, LogTellsCounts, LogTellsSettled, LogTellsReady, LogTellsCompletions, LogTellsNext, LogTellsOutcome}
-use Rattle.scope_log.proofs.LogCounts.{tasks_told, counts_told, settled_told, ready_told}
-use Rattle.scope_log.proofs.LogMarks.{cause_told}
-use Rattle.scope_log.proofs.LogOutcomes.{log_of, next_told, outcome_told}
-use Rattle.scope_log.proofs.LogStates.{completions_told, state_told}
-use Rattle.scope_log.proofs.LogTasks.{stage_told}
-use Rattle.scope_log.proofs.NewLogs.{log_there}
+use Rattle.std.proofs.Common.{ℕ, ◌∙◌, ◌≡◌, Some, ap}
+use Rattle.scope_log.specs.{History, LogTellsCause, LogTellsCompletions, LogTellsCounts, LogTellsNext, LogTellsOutcome, LogTellsReady, LogTellsSettled, LogTellsStages, LogTellsStates, LogTellsTasks, LogValue, Opening, answer_in}
+use Rattle.scope_log.specs.{cause_in, completions_in, counts_in, entries, log, outcome_in, ready_in, settled_in, stage_in, state_in, tasks_in}
+use Rattle.scope_log.proofs.{LogCounts.counts_told, LogCounts.ready_told, LogCounts.settled_told, LogCounts.tasks_told, LogMarks.cause_told, LogOutcomes.log_of, LogOutcomes.next_told, LogOutcomes.outcome_told}
+use Rattle.scope_log.proofs.{LogStates.completions_told, LogStates.state_told, LogTasks.stage_told, NewLogs.log_there}
 
 pub entries_there : (h : History) (s : ℕ) (l : LogValue) → log h s ≡ Some l → l.entries ≡ entries h s
 entries_there h s l is = ap (λ (x : LogValue). x.entries) (log_there h s l is).log

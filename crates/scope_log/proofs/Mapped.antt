@@ -1,8 +1,6 @@
 -- Searches over what a function was put on.
-use Rattle.std.proofs.Common.{◌≡◌, ℕ, zero, suc, ◌+◌, Bool, Option, Some, None, option_map, cond, List, [], ◌∷◌, map, fold, sum_by, count_by, refl, ap, ◌∙◌}
-use Rattle.std.specs.Option.{option_and_then, option_or, option_map_or}
-use Rattle.std.specs.List.{list_any, filter_map}
-use Rattle.scope_rules.specs.Search.{earliest, last_of}
+use Rattle.std.proofs.Common.{[], ℕ, ◌+◌, ◌∙◌, ◌∷◌, ◌≡◌, Bool, List, None, Option, Some, ap, cond, count_by, fold, map, option_map, refl, suc, sum_by, zero}
+use Rattle.scope_log.specs.{earliest, filter_map, last_of, list_any, option_and_then, option_map_or, option_or}
 
 module _ {A : Type 0} (f : A → A) where
   pub any_mapped : (p : A → Bool) → ((x : A) → p (f x) ≡ p x) → (xs : List A) → list_any p (map f xs) ≡ list_any p xs

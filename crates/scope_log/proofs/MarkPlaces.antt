@@ -1,25 +1,10 @@
 -- Where the mark stands in the entries of a scope, and how many entries there are.
-use Rattle.std.proofs.Common.{◌≡◌, ◌≢◌, ℕ, zero, suc, ◌+◌, ◌-◌, ◌<◌, ◌≤◌, ◌==◌, cond, Option, Some, None, option_map, List, [], ◌∷◌, ◌++◌, length, max, refl, ap, sym, subst, ◌∙◌, arith, length-append, append_assoc}
-use Rattle.std.proofs.lemmas.Bool.{ne_eqb, eq-eqb}
-use Rattle.std.proofs.lemmas.List.Concat.{flat_map-append}
-use Rattle.std.proofs.lemmas.List.Elements.{filter_map-append}
-use Rattle.std.proofs.lemmas.List.FromFn.{length-range_with_len}
-use Rattle.std.specs.Option.{option_and_then}
-use Rattle.std.specs.List.{flat_map, filter_map, range_with_len, cons_option}
-use Rattle.scope_rules.specs.declared.types.answers.Cause.{Cause}
-use Rattle.scope_rules.specs.declared.types.records.FirstCancel.{FirstCancel}
-use Rattle.scope_rules.specs.declared.types.records.Opening.{Opening}
-use Rattle.scope_rules.specs.History.{History, opening}
-use Rattle.scope_rules.specs.Cancels.{first_cancel, cause, cancelled_at}
-use Rattle.scope_rules.proofs.Earlier.{opening_within}
-use Rattle.scope_rules.proofs.Numbers.{range_push}
-use Rattle.scope_rules.proofs.Staying.{cancel_within_history}
-use Rattle.scope_log.specs.declared.entries.LogEntry.{LogEntry}
+use Rattle.std.proofs.Common.{[], ℕ, ◌++◌, ◌+◌, ◌-◌, ◌<◌, ◌==◌, ◌∙◌, ◌∷◌, ◌≡◌, ◌≢◌, ◌≤◌, List, None, Option, Some, ap, append_assoc, arith, cond, length, length-append, max, option_map, refl, subst, suc, sym, zero}
+use Rattle.scope_log.specs.{Cause, FirstCancel, History, IsMarked, LogEntry, LogValue, LogsAreMarked, LogsAreShort, Opening, Words.cause, cancelled_at, cons_option, entries, entries_at, entries_from, entry_at, filter_map}
+use Rattle.scope_log.specs.{first_cancel, flat_map, mark_at, mark_of, opening, option_and_then, range_with_len}
+use Rattle.scope_log.proofs.Words.{cancel_within_history, eq-eqb, filter_map-append, flat_map-append, length-range_with_len, ne_eqb, opening_within, range_push}
+use Rattle.scope_log.proofs.{LogSteps.flat_map_same, NewLogs.log_there}
 use Rattle.scope_log.specs.declared.entries.LogEntry.TheVariants as entry
-use Rattle.scope_log.specs.Log.{LogValue, entry_at, mark_of, mark_at, entries_at, entries}
-use Rattle.scope_log.specs.LogLaws.{entries_from, IsMarked, LogsAreMarked, LogsAreShort}
-use Rattle.scope_log.proofs.LogSteps.{flat_map_same}
-use Rattle.scope_log.proofs.NewLogs.{log_there}
 
 -- the first n numbers are the first m, the next, and the rest
 range_parts : (a m n : ℕ) → range_with_len a (m + suc n) ≡ range_with_len a m ++ (a + m) ∷ range_with_len (a + m + 1) n

@@ -1,15 +1,8 @@
 -- Of events that name no number that was discarded, neither do the openings and the forkings.
-use Rattle.std.proofs.Common.{◌≡◌, ℕ, zero, suc, Option, Some, None, option_map, List, [], ◌∷◌, take, slice_get, refl, ap, arith}
-use Rattle.std.specs.Option.{option_and_then, option_map_or}
-use Rattle.scope_rules.specs.declared.types.events.Event.{Event}
-use Rattle.scope_rules.specs.declared.types.events.Event.TheVariants.{Open, Fork, Finish, BeginClose}
-use Rattle.scope_rules.specs.declared.types.records.Opening.{Opening}
-use Rattle.scope_rules.specs.declared.types.records.Forking.{Forking}
-use Rattle.scope_rules.specs.Ends.{EndValue}
-use Rattle.scope_rules.specs.History.{scopes, tasks, opening, forking}
+use Rattle.std.proofs.Common.{[], ℕ, ◌∷◌, ◌≡◌, List, None, Option, Some, ap, arith, option_map, refl, slice_get, suc, take, zero}
 use Rattle.scope_rules.proofs.Accepted.{or_left, or_right}
-use Rattle.scope_rules.proofs.Earlier.{opening_event, forking_event, scope_number}
-use Rattle.scope_log.specs.Folding.{is_let_go, Retirable, retired, NamesNone}
+use Rattle.scope_log.specs.{BeginClose, EndValue, Event, Finish, Fork, Forking, NamesNone, Open, Opening, Retirable, Words.scopes, Words.tasks, forking, is_let_go, opening, option_and_then, option_map_or, retired}
+use Rattle.scope_log.proofs.Words.{forking_event, opening_event, scope_number}
 use Rattle.scope_log.proofs.Past.{IsScope, IsTask, greater}
 
 get_of_take : {A : Type 0} (xs : List A) (n i : ℕ) (x : A) → slice_get (take n xs) i ≡ Some x → slice_get xs i ≡ Some x

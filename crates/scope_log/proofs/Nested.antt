@@ -1,21 +1,11 @@
 -- Who owns what, what lies around it, and what covers it.
-use Rattle.std.proofs.Common.{◌≡◌, ℕ, ◌+◌, ◌≤◌, ◌==◌, ◌&&◌, Bool, true, false, not, cond, Option, Some, None, option_map, List, length, take, refl, ap, ◌∙◌, arith, inl, inr, ◌⊎◌}
-use Rattle.std.specs.Option.{option_or, option_and_then, option_map_or}
-use Rattle.scope_rules.specs.declared.types.events.Event.{Event}
-use Rattle.scope_rules.specs.declared.types.records.Opening.{Opening}
-use Rattle.scope_rules.specs.declared.types.records.Forking.{Forking}
-use Rattle.scope_rules.specs.Search.{latest}
-use Rattle.scope_rules.specs.History.{History, scopes, opened_count, opening, forking}
-use Rattle.scope_rules.specs.Scopes.{closed, unclosed_of, innermost, forked_in, surrounding, around, parent, outer, level, next_level, have_one_opener, covers}
-use Rattle.scope_rules.proofs.Innermosts.{innermost_unclosed}
-use Rattle.scope_rules.proofs.Earlier.{scope_number}
-use Rattle.scope_log.specs.Folding.{Retirable, unretired, retired, NamesNone}
-use Rattle.scope_log.proofs.Splitting.{latest_second}
-use Rattle.scope_log.proofs.Past.{IsScope, IsTask, greater, all_closed}
-use Rattle.scope_log.proofs.Numbered.{size, opened_so_far, part, moved_opening, moved_forking, opening_both, same_opening, same_forking}
-use Rattle.scope_log.proofs.Named.{first_names, opener_named, home_named, opened_new, then_moved, map_moved}
-use Rattle.scope_log.proofs.Standing.{same_closed, closed_still}
-use Rattle.scope_log.proofs.Chained.{chain_alike}
+use Rattle.std.proofs.Common.{ℕ, ◌&&◌, ◌+◌, ◌==◌, ◌∙◌, ◌≡◌, ◌≤◌, ◌⊎◌, Bool, List, None, Option, Some, ap, arith, cond, false, inl, inr, length, not, option_map, refl, take, true}
+use Rattle.scope_log.specs.{Event, Forking, History, NamesNone, Opening, Retirable, Words.closed, Words.innermost, Words.scopes, around, covers, forked_in, forking, have_one_opener, latest, level, next_level, opened_count}
+use Rattle.scope_log.specs.{opening, option_and_then, option_map_or, option_or, outer, parent, retired, surrounding, unclosed_of, unretired}
+use Rattle.scope_log.proofs.Words.{innermost_unclosed, scope_number}
+use Rattle.scope_log.proofs.{Chained.chain_alike, Named.first_names, Named.home_named, Named.map_moved, Named.opened_new, Named.opener_named, Named.then_moved, Numbered.moved_forking, Numbered.moved_opening}
+use Rattle.scope_log.proofs.{Numbered.opened_so_far, Numbered.opening_both, Numbered.part, Numbered.same_forking, Numbered.same_opening, Numbered.size, Past.IsScope, Past.IsTask, Past.all_closed, Past.greater}
+use Rattle.scope_log.proofs.{Splitting.latest_second, Standing.closed_still, Standing.same_closed}
 
 -- the number of a scope, if the actor opened it and has not closed it
 abbrev pub unclosed_number : History → ℕ → ℕ → Option ℕ

@@ -1,29 +1,9 @@
 -- No event names a scope that isn't opened yet, so its log begins with its opening.
-use Rattle.std.proofs.Common.{◌≡◌, ℕ, ◌+◌, ◌==◌, Bool, true, false, cond, Option, Some, None, option_map, [], ◌++◌, refl, ap, sym, subst, ◌∙◌}
-use Rattle.std.proofs.lemmas.Bool.{eqb-true, false_from_ne_true}
-use Rattle.std.specs.List.{cons_option}
-use Rattle.scope_rules.specs.declared.types.capacity.Limits.{Limits}
-use Rattle.scope_rules.specs.declared.types.events.Event.{Event}
-use Rattle.scope_rules.specs.declared.types.events.Event.TheVariants.{Open, Fork, Reject, Start, Finish, Cancel, Move, Join, BeginClose, EndClose}
-use Rattle.scope_rules.specs.declared.types.records.FirstCancel.{FirstCancel}
-use Rattle.scope_rules.specs.declared.types.records.Opening.{Opening}
-use Rattle.scope_rules.specs.Origin.{Origin}
-use Rattle.scope_rules.specs.History.{History, followed, opening, scopes}
-use Rattle.scope_rules.specs.Cancels.{first_cancel, cause, is_cancelled}
-use Rattle.scope_rules.specs.Completions.{is_task_of}
-use Rattle.scope_rules.specs.Table.{row_check}
-use Rattle.scope_rules.specs.Legal.{Accepts, Legal}
-use Rattle.scope_rules.proofs.Accepted.{checks_at}
-use Rattle.scope_rules.proofs.Forkings.{task_there}
-use Rattle.scope_rules.proofs.Growing.{opening_stays}
-use Rattle.scope_rules.proofs.InnermostSteps.{next_opening}
-use Rattle.scope_rules.proofs.Nesting.{IsOpened, forked_opened}
-use Rattle.scope_rules.proofs.NewScopes.{scope_passed}
-use Rattle.scope_rules.proofs.OneEventMore.{along}
-use Rattle.scope_rules.proofs.PassedRows.{IsOwner, fork_passed, begin_close_passed, end_close_passed}
-use Rattle.scope_rules.proofs.Staying.{cancel_opened}
-use Rattle.scope_log.specs.Log.{LogValue, is_of, said, entry_of, entries, mark_next, mark_of, entries_next, log}
-use Rattle.scope_log.specs.LogLaws.{LogGoesOn}
+use Rattle.std.proofs.Common.{[], ℕ, ◌++◌, ◌+◌, ◌==◌, ◌∙◌, ◌≡◌, Bool, None, Option, Some, ap, cond, false, option_map, refl, subst, sym, true}
+use Rattle.scope_log.specs.{Accepts, BeginClose, Cancel, EndClose, Event, Finish, FirstCancel, Fork, History, Join, Legal, Limits, LogGoesOn, LogValue, Move, Open, Opening, Origin, Reject, Start, Words.cause, Words.scopes}
+use Rattle.scope_log.specs.{cons_option, entries, entries_next, entry_of, first_cancel, followed, is_cancelled, is_of, is_task_of, log, mark_next, mark_of, opening, row_check, said}
+use Rattle.scope_log.proofs.Words.{IsOpened, IsOwner, along, begin_close_passed, cancel_opened, checks_at, end_close_passed, eqb-true, false_from_ne_true, fork_passed, forked_opened, next_opening, opening_stays, scope_passed}
+use Rattle.scope_log.proofs.Words.{task_there}
 use Rattle.scope_log.proofs.LogSteps.{entries_grow}
 
 module _ (L : Limits) (h : History) (s : ℕ) where

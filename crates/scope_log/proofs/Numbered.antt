@@ -1,17 +1,9 @@
 -- What has a number that was not let go is the same, with its place moved by the length of the past.
-use Rattle.std.proofs.Common.{◌≡◌, ℕ, ◌+◌, ◌<◌, ◌≤◌, ◌==◌, Bool, true, false, cond, Option, Some, None, option_map, unwrap_or, List, ◌++◌, length, take, slice_get, count_by, refl, ap, ◌∙◌, arith, length-append}
-use Rattle.std.specs.Option.{option_or, option_and_then}
-use Rattle.std.proofs.lemmas.List.{take-append-le}
-use Rattle.std.proofs.lemmas.List.Sums.{sum_by-append}
-use Rattle.scope_rules.specs.declared.types.events.Event.{Event}
-use Rattle.scope_rules.specs.declared.types.events.Event.TheVariants.{Open, Fork}
-use Rattle.scope_rules.specs.declared.types.records.Opening.{Opening}
-use Rattle.scope_rules.specs.declared.types.records.Forking.{Forking}
-use Rattle.scope_rules.specs.Search.{earliest, last_of}
-use Rattle.scope_rules.specs.History.{before, scopes, tasks, opened_count, forked_count, opening, forking, moment, numbered_at, is_open, is_fork, opening_of, forking_of, tick_of}
-use Rattle.scope_log.specs.Folding.{Retirable, unretired, retired}
-use Rattle.scope_log.proofs.Splitting.{get_first, get_second, take_second, earliest_split, last_of_append}
-use Rattle.scope_log.proofs.Past.{IsScope, IsTask, unopened, unforked}
+use Rattle.std.proofs.Common.{ℕ, ◌++◌, ◌+◌, ◌<◌, ◌==◌, ◌∙◌, ◌≡◌, ◌≤◌, Bool, List, None, Option, Some, ap, arith, cond, count_by, false, length, length-append, option_map, refl, slice_get, take, true, unwrap_or}
+use Rattle.scope_log.specs.{Event, Fork, Forking, Open, Opening, Retirable, Words.moment, Words.scopes, Words.tasks, before, earliest, forked_count, forking, forking_of, is_fork, is_open, last_of, numbered_at, opened_count}
+use Rattle.scope_log.specs.{opening, opening_of, option_and_then, option_or, retired, tick_of, unretired}
+use Rattle.scope_log.proofs.Words.{sum_by-append, take-append-le}
+use Rattle.scope_log.proofs.{Past.IsScope, Past.IsTask, Past.unforked, Past.unopened, Splitting.earliest_split, Splitting.get_first, Splitting.get_second, Splitting.last_of_append, Splitting.take_second}
 
 -- the length of the past
 abbrev pub size : Retirable → ℕ

@@ -1,28 +1,9 @@
 -- Of a number that was not given in the past, the past says nothing.
-use Rattle.std.proofs.Common.{subst, take, ◌-◌, ◌≡◌, ◌≢◌, ℕ, ◌<◌, ◌≤◌, ◌&&◌, Bool, true, false, cond, nat_le, nat_lt, Option, Some, None, [], ◌∷◌, length, slice_get, fold, refl, ap, sym, ◌∙◌, arith, inl, inr}
-use Rattle.std.proofs.lemmas.Bool.{le-leb, lt-ltb, leb-true, both_ways, false_from_ne_true, ne_eqb}
-use Rattle.scope_rules.specs.declared.types.events.Event.{Event}
-use Rattle.scope_rules.specs.declared.types.events.Event.TheVariants.{Bind, Unbind}
-use Rattle.scope_rules.specs.declared.types.events.Binding.{Binding}
-use Rattle.scope_rules.specs.declared.types.records.Opening.{Opening}
-use Rattle.scope_rules.specs.Search.{last_of}
-use Rattle.scope_rules.specs.History.{before, scopes, tasks, opening, forking}
-use Rattle.scope_rules.specs.Scopes.{joined, closed, ends}
-use Rattle.scope_rules.specs.Cancels.{move_of}
-use Rattle.scope_rules.specs.Tasks.{rejects, rejected, starts, started, finishes, finished}
-use Rattle.scope_rules.specs.Bindings.{stack, stacked}
-use Rattle.scope_rules.specs.Table.{row_check}
-use Rattle.scope_rules.specs.Legal.{Accepts, Legal}
-use Rattle.scope_rules.proofs.Accepted.{checks_at}
-use Rattle.scope_rules.proofs.PassedRows.{IsActor, actor_passed, ender_passed, finisher_passed, rejecter_passed, starter_passed}
-use Rattle.scope_rules.proofs.Nesting.{IsOpened, opened_before}
-use Rattle.scope_rules.proofs.Forkings.{IsForked}
-use Rattle.scope_rules.proofs.Stages.{running_forked, waiting_forked}
-use Rattle.scope_rules.proofs.OneEventMore.{forking_later}
-use Rattle.scope_rules.proofs.Earlier.{scope_given, task_given}
-use Rattle.scope_rules.proofs.NewScopes.{joined_opened, moved_opened}
-use Rattle.scope_rules.proofs.ClosingScopes.{nothing_open}
-use Rattle.scope_log.specs.Folding.{is_let_go, Retirable}
+use Rattle.std.proofs.Common.{[], ℕ, ◌&&◌, ◌-◌, ◌<◌, ◌∙◌, ◌∷◌, ◌≡◌, ◌≢◌, ◌≤◌, Bool, None, Option, Some, ap, arith, cond, false, fold, inl, inr, length, nat_le, nat_lt, refl, slice_get, subst, sym, take, true}
+use Rattle.scope_log.specs.{Accepts, Bind, Binding, Event, Legal, Opening, Retirable, Unbind, Words.closed, Words.joined, Words.scopes, Words.tasks, before, ends, finished, finishes, forking, is_let_go, last_of, move_of, opening}
+use Rattle.scope_log.specs.{rejected, rejects, row_check, stack, stacked, started, starts}
+use Rattle.scope_log.proofs.Words.{IsActor, IsForked, IsOpened, actor_passed, both_ways, checks_at, ender_passed, false_from_ne_true, finisher_passed, forking_later, joined_opened, le-leb, leb-true, lt-ltb, moved_opened, ne_eqb}
+use Rattle.scope_log.proofs.Words.{nothing_open, opened_before, rejecter_passed, running_forked, scope_given, starter_passed, task_given, waiting_forked}
 use Rattle.scope_log.proofs.Splitting.{any_where, fold_kept}
 
 -- the number was not let go: it is 0, or is given later

@@ -1,12 +1,7 @@
 -- Queries over the numbers of tasks and of scopes.
-use Rattle.std.proofs.Common.{◌≡◌, ℕ, zero, suc, ◌+◌, ◌≤◌, Bool, true, false, cond, Option, List, ◌∷◌, map, count_by, refl, ap, ◌∙◌, arith}
-use Rattle.std.specs.List.{list_any, range_with_len, filter, filter_map, cons_option}
-use Rattle.scope_rules.specs.declared.types.events.Event.{Event}
-use Rattle.scope_rules.specs.History.{scopes, tasks, opened_count, forked_count, scope_numbers, task_numbers}
-use Rattle.scope_log.specs.Folding.{Retirable, unretired, retired}
-use Rattle.scope_log.proofs.Splitting.{filter_numbers, count_numbers, any_numbers}
-use Rattle.scope_log.proofs.Past.{IsScope, IsTask, greater}
-use Rattle.scope_log.proofs.Numbered.{opened_so_far, forked_so_far}
+use Rattle.std.proofs.Common.{ℕ, ◌+◌, ◌∙◌, ◌∷◌, ◌≡◌, ◌≤◌, Bool, List, Option, ap, arith, cond, count_by, false, map, refl, suc, true, zero}
+use Rattle.scope_log.specs.{Event, Retirable, Words.scopes, Words.tasks, cons_option, filter, filter_map, forked_count, list_any, opened_count, range_with_len, retired, scope_numbers, task_numbers, unretired}
+use Rattle.scope_log.proofs.{Numbered.forked_so_far, Numbered.opened_so_far, Past.IsScope, Past.IsTask, Past.greater, Splitting.any_numbers, Splitting.count_numbers, Splitting.filter_numbers}
 
 next_after : (b n : ℕ) → (b + 1) + n ≡ (b + n) + 1
 next_after b n = omega arith

@@ -1,17 +1,9 @@
 -- What is read of scopes is read of them without dues.
-use Rattle.std.proofs.Common.{◌≡◌, ℕ, false, cond, Option, Some, None, option_map, length, slice_get, refl, ap, ◌∙◌}
-use mathlib.Core.Path.{fun_ext}
-use Rattle.std.specs.Option.{option_and_then, option_map_or}
-use Rattle.scope_rules.specs.declared.types.events.Event.{Event}
-use Rattle.scope_rules.specs.declared.types.events.Event.TheVariants.{Fork, BeginClose}
-use Rattle.scope_rules.specs.declared.types.records.Opening.{Opening}
-use Rattle.scope_rules.specs.declared.types.records.Forking.{Forking}
-use Rattle.scope_rules.specs.Chains.{chain_by}
-use Rattle.scope_rules.specs.History.{History, before, opening, forking}
-use Rattle.scope_rules.specs.Scopes.{joins, joined, ends, closed, unclosed_of, innermost, forked_in, surrounding, around, parent, outer, level, next_level, covers, begins_closing, closing_at, closing}
-use Rattle.scope_log.specs.Dues.{without_due, without_dues}
-use Rattle.scope_log.proofs.Mapped.{any_mapped, map_or_mapped}
-use Rattle.scope_log.proofs.Events.{without_before, without_length, without_at, same_opened, same_opening, same_forking, forking_without}
+use Rattle.std.proofs.Common.{ℕ, ◌∙◌, ◌≡◌, None, Option, Some, ap, cond, false, length, option_map, refl, slice_get}
+use Rattle.scope_log.specs.{BeginClose, Event, Fork, Forking, History, Opening, Words.closed, Words.closing, Words.innermost, Words.joined, around, before, begins_closing, chain_by, closing_at, covers, ends, forked_in, forking}
+use Rattle.scope_log.specs.{joins, level, next_level, opening, option_and_then, option_map_or, outer, parent, surrounding, unclosed_of, without_due, without_dues}
+use Rattle.scope_log.proofs.Words.{fun_ext}
+use Rattle.scope_log.proofs.{Events.forking_without, Events.same_forking, Events.same_opened, Events.same_opening, Events.without_at, Events.without_before, Events.without_length, Mapped.any_mapped, Mapped.map_or_mapped}
 
 joins_same : (s : ℕ) (e : Event) → joins s (without_due e) ≡ joins s e
 joins_same s (Fork actor scope label) = refl

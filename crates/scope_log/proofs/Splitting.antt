@@ -1,15 +1,9 @@
 -- Searches over a list of two parts of which the first gives nothing: they find what they find in the
 -- second.
-use Rattle.std.proofs.Common.{◌≡◌, ℕ, zero, suc, ◌+◌, ◌<◌, ◌≤◌, ◌||◌, Bool, true, false, Option, Some, None, option_map, List, [], ◌∷◌, ◌++◌, length, take, slice_get, fold, count_by, refl, ap, sym, ◌∙◌, inl, inr, ◌⊎◌, nat_lt, arith, add-zero, zero-add, suc-add}
-use Rattle.std.proofs.lemmas.List.Elements.{filter-append}
-use Rattle.std.proofs.lemmas.List.Sums.{length-filter}
-use Rattle.std.proofs.lemmas.List.Folds.{list_any-append}
-use Rattle.std.specs.Option.{option_or}
-use Rattle.std.specs.List.{list_any, range_with_len, filter, filter_map, cons_option}
-use Rattle.scope_rules.specs.Search.{earliest, latest, last_of, some_below}
-use Rattle.scope_rules.proofs.Prefixes.{option_or-assoc, option_or-none}
-use Rattle.scope_rules.proofs.Tallies.{any_counted}
-use Rattle.scope_rules.proofs.Searching.{earliest_same}
+use Rattle.std.proofs.Common.{[], ℕ, ◌++◌, ◌+◌, ◌<◌, ◌||◌, ◌∙◌, ◌∷◌, ◌≡◌, ◌≤◌, ◌⊎◌, Bool, List, None, Option, Some, add-zero, ap, arith, count_by, false, fold, inl, inr, length, nat_lt, option_map, refl, slice_get, suc, suc-add}
+use Rattle.std.proofs.Common.{sym, take, true, zero, zero-add}
+use Rattle.scope_log.specs.{cons_option, earliest, filter, filter_map, last_of, latest, list_any, option_or, range_with_len, some_below}
+use Rattle.scope_log.proofs.Words.{any_counted, earliest_same, filter-append, length-filter, list_any-append, option_or-assoc, option_or-none}
 
 -- ---- lists of two parts
 

@@ -1,27 +1,10 @@
 -- How far the tasks have come that were not let go, and what can be read of them.
-use Rattle.std.proofs.Common.{◌≡◌, ℕ, ◌+◌, ◌==◌, ◌&&◌, Bool, true, false, not, cond, Option, Some, None, option_map, count_by, List, length, slice_get, refl, ap, ◌∙◌, length-append}
-use Rattle.std.specs.Option.{option_and_then, option_map_or}
-use Rattle.scope_rules.specs.declared.types.events.Event.{Event}
-use Rattle.scope_rules.specs.declared.types.events.Event.TheVariants.{Finish}
-use Rattle.scope_rules.specs.declared.types.answers.Stage.{Stage}
-use Rattle.scope_rules.specs.declared.types.answers.Stage.TheVariants.{Never, Waiting, Running, Finished}
-use Rattle.scope_rules.specs.declared.types.answers.State.TheVariants.{Unavailable}
-use Rattle.scope_rules.specs.declared.types.records.Forking.{Forking}
-use Rattle.scope_rules.specs.declared.types.records.Ending.{Ending}
-use Rattle.scope_rules.specs.Search.{earliest}
-use Rattle.scope_rules.specs.History.{forking, task_numbers}
-use Rattle.scope_rules.specs.Completions.{is_task_of}
-use Rattle.scope_rules.specs.Nests.{tasks_of}
-use Rattle.scope_rules.specs.Tasks.{stage, stage_of, ending_of, ending_at, ending, state, state_of, state_by_end, has_tasks, is_stage, is_at, counts, is_unsettled, is_settled, settled, ready}
-use Rattle.scope_log.specs.Folding.{Retirable, unretired, retired, NamesNone}
-use Rattle.scope_log.proofs.Splitting.{get_first, get_second, earliest_second}
-use Rattle.scope_log.proofs.Past.{IsScope, IsTask, unfinished_by}
-use Rattle.scope_log.proofs.Numbered.{size, moved_forking, same_forking}
-use Rattle.scope_log.proofs.Named.{home_named, or_moved}
-use Rattle.scope_log.proofs.Standing.{same_rejected, same_started, same_finished}
-use Rattle.scope_log.proofs.Completed.{same_is_task, past_task}
-use Rattle.scope_log.proofs.Cancelled.{same_cancelled, same_cancelled_before}
-use Rattle.scope_log.proofs.Ranges.{filter_tasks, count_tasks, any_tasks}
+use Rattle.std.proofs.Common.{ℕ, ◌&&◌, ◌+◌, ◌==◌, ◌∙◌, ◌≡◌, Bool, List, None, Option, Some, ap, cond, count_by, false, length, length-append, not, option_map, refl, slice_get, true}
+use Rattle.scope_log.specs.{Ending, Event, Finish, Finished, Forking, NamesNone, Never, Retirable, Running, Stage, Unavailable, Waiting, Words.counts, Words.stage, Words.state, earliest, ending, ending_at, ending_of, forking}
+use Rattle.scope_log.specs.{has_tasks, is_at, is_settled, is_stage, is_task_of, is_unsettled, option_and_then, option_map_or, ready, retired, settled, stage_of, state_by_end, state_of, task_numbers, tasks_of, unretired}
+use Rattle.scope_log.proofs.{Cancelled.same_cancelled, Cancelled.same_cancelled_before, Completed.past_task, Completed.same_is_task, Named.home_named, Named.or_moved, Numbered.moved_forking, Numbered.same_forking, Numbered.size}
+use Rattle.scope_log.proofs.{Past.IsScope, Past.IsTask, Past.unfinished_by, Ranges.any_tasks, Ranges.count_tasks, Ranges.filter_tasks, Splitting.earliest_second, Splitting.get_first, Splitting.get_second, Standing.same_finished}
+use Rattle.scope_log.proofs.{Standing.same_rejected, Standing.same_started}
 
 abbrev pub moved_ending : ℕ → Ending → Ending
 moved_ending n x = record { place = n + x.place; end = x.end }

@@ -1,23 +1,11 @@
 -- What stands of a number that was not let go: joins, ends of closes, deadlines, rejects, starts, ends
 -- of tasks, and own pairs.
-use Rattle.std.proofs.Common.{◌≡◌, ℕ, zero, suc, ◌||◌, true, cond, Option, Some, None, List, [], ◌++◌, fold, refl, ap, sym, ◌∙◌, arith}
-use Rattle.std.specs.Option.{option_or, option_and_then, option_map_or}
-use Rattle.std.specs.List.{list_any}
-use Rattle.std.proofs.lemmas.List.Folds.{list_any-append}
-use Rattle.std.proofs.lemmas.Bool.{ne_eqb}
-use Rattle.scope_rules.specs.declared.types.events.Event.{Event}
-use Rattle.scope_rules.specs.declared.types.records.Opening.{Opening}
-use Rattle.scope_rules.specs.Search.{last_of}
-use Rattle.scope_rules.specs.History.{History, opening}
-use Rattle.scope_rules.specs.Scopes.{joins, joined, ends, closed}
-use Rattle.scope_rules.specs.Cancels.{move_of, deadline, overdue, counting_deadline}
-use Rattle.scope_rules.specs.Tasks.{rejects, rejected, starts, started, finishes, finished}
-use Rattle.scope_rules.specs.Bindings.{stack, stacked, first_stack}
-use Rattle.scope_log.specs.Folding.{Retirable, unretired, retired}
-use Rattle.scope_log.proofs.Splitting.{any_second, last_of_append, fold_append}
-use Rattle.scope_log.proofs.Past.{IsScope, IsTask, unjoined, unclosed, unmoved, unrejected, unstarted, unfinished, no_pairs}
-use Rattle.scope_log.proofs.Numbered.{size, moved_opening, same_opening, same_moment}
-use Rattle.scope_log.proofs.Named.{then_moved}
+use Rattle.std.proofs.Common.{[], ℕ, ◌++◌, ◌||◌, ◌∙◌, ◌≡◌, List, None, Option, Some, ap, arith, cond, fold, refl, suc, sym, true, zero}
+use Rattle.scope_log.specs.{Event, History, Opening, Retirable, Words.closed, Words.joined, counting_deadline, deadline, ends, finished, finishes, first_stack, joins, last_of, list_any, move_of, opening, option_and_then}
+use Rattle.scope_log.specs.{option_map_or, option_or, overdue, rejected, rejects, retired, stack, stacked, started, starts, unretired}
+use Rattle.scope_log.proofs.Words.{list_any-append, ne_eqb}
+use Rattle.scope_log.proofs.{Named.then_moved, Numbered.moved_opening, Numbered.same_moment, Numbered.same_opening, Numbered.size, Past.IsScope, Past.IsTask, Past.no_pairs, Past.unclosed, Past.unfinished, Past.unjoined}
+use Rattle.scope_log.proofs.{Past.unmoved, Past.unrejected, Past.unstarted, Splitting.any_second, Splitting.fold_append, Splitting.last_of_append}
 
 module _ (r : Retirable) (es : List Event) where
   pub same_joined : (s : ℕ) → IsScope r s → joined (unretired r es) s ≡ joined (retired r es) s

@@ -1,23 +1,10 @@
 -- What is read of tasks and of bindings is read of them without dues.
-use Rattle.std.proofs.Common.{◌≡◌, ℕ, ◌==◌, ◌&&◌, false, not, nat_le, List, length, refl, ap, ◌∙◌}
-use mathlib.Core.Path.{fun_ext}
-use Rattle.std.specs.Option.{option_map_or}
-use Rattle.std.specs.List.{list_any}
-use Rattle.scope_rules.specs.declared.types.events.Event.{Event}
-use Rattle.scope_rules.specs.declared.types.events.Event.TheVariants.{Fork}
-use Rattle.scope_rules.specs.declared.types.events.Binding.{Binding}
-use Rattle.scope_rules.specs.declared.types.answers.Stage.TheVariants.{Never}
-use Rattle.scope_rules.specs.declared.types.records.Opening.{Opening}
-use Rattle.scope_rules.specs.declared.types.records.Forking.{Forking}
-use Rattle.scope_rules.specs.History.{History, before, opening, forking, scope_numbers}
-use Rattle.scope_rules.specs.Scopes.{closed}
-use Rattle.scope_rules.specs.Tasks.{rejects, rejected, starts, started, finishes, finished, stage_of, stage, is_unsettled, settled, ready}
-use Rattle.scope_rules.specs.Bindings.{stacked, first_stack, stack, bound_as_at, bound_as_opened, opened_above, holds_last}
-use Rattle.scope_log.specs.Dues.{without_due, without_dues}
-use Rattle.scope_log.proofs.Mapped.{any_mapped, fold_mapped, map_or_mapped}
-use Rattle.scope_log.proofs.Events.{without_before, same_opened, same_forked, same_opening, same_forking, forking_without}
-use Rattle.scope_log.proofs.Scopes.{same_closed}
-use Rattle.scope_log.proofs.Cancels.{same_is_task_of, same_cancelled, same_cancelled_before}
+use Rattle.std.proofs.Common.{ℕ, ◌&&◌, ◌==◌, ◌∙◌, ◌≡◌, List, ap, false, length, nat_le, not, refl}
+use Rattle.scope_log.specs.{Binding, Event, Fork, Forking, History, Never, Opening, Words.closed, Words.stage, before, bound_as_at, bound_as_opened, finished, finishes, first_stack, forking, holds_last, is_unsettled, list_any}
+use Rattle.scope_log.specs.{opened_above, opening, option_map_or, ready, rejected, rejects, scope_numbers, settled, stack, stacked, stage_of, started, starts, without_due, without_dues}
+use Rattle.scope_log.proofs.Words.{fun_ext}
+use Rattle.scope_log.proofs.{Cancels.same_cancelled, Cancels.same_cancelled_before, Cancels.same_is_task_of, Events.forking_without, Events.same_forked, Events.same_forking, Events.same_opened, Events.same_opening}
+use Rattle.scope_log.proofs.{Events.without_before, Mapped.any_mapped, Mapped.fold_mapped, Mapped.map_or_mapped, Scopes.same_closed}
 
 -- ---- stages
 

@@ -1,9 +1,6 @@
 -- A history whose labels expect no end is as it was without dues.
-use Rattle.std.proofs.Common.{◌≡◌, ℕ, suc, None, Some, List, [], ◌∷◌, map, slice_get, refl, sym, ap, ap₂}
-use Rattle.scope_rules.specs.declared.types.events.Event.{Event}
-use Rattle.scope_rules.specs.declared.types.events.Event.TheVariants.{Fork}
-use Rattle.scope_rules.specs.declared.types.values.Label.{Label}
-use Rattle.scope_log.specs.Dues.{without_due, NothingIsTaken}
+use Rattle.std.proofs.Common.{[], ℕ, ◌∷◌, ◌≡◌, List, None, Some, ap, ap₂, map, refl, slice_get, suc, sym}
+use Rattle.scope_log.specs.{Event, Fork, Label, NothingIsTaken, without_due}
 
 NoneDue : List Event → Type 0
 NoneDue es = (i actor scope : ℕ) (label : Label) → slice_get es i ≡ Some (Fork actor scope label) → label.due ≡ None

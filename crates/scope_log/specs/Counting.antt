@@ -1,8 +1,6 @@
 -- A count of tasks, one task more.
 use Rattle.std.specs.Prelude.{ℕ, ◌+◌}
-use Rattle.scope_rules.specs.declared.types.answers.Counts.{Counts}
-use Rattle.scope_rules.specs.declared.types.answers.Stage.{Stage}
-use Rattle.scope_rules.specs.declared.types.answers.Stage.TheVariants.{Never, Waiting, Running, Finished}
+use Rattle.scope_log.specs.Words.{Counts, Finished, Never, Running, Stage, Waiting}
 
 -- how many tasks are counted
 abbrev pub total : Counts → ℕ

@@ -1,12 +1,6 @@
 -- Histories without the ends that labels expect, and that nothing is decided by these.
-use Rattle.std.specs.Prelude.{◌≡◌, ℕ, None, Some, map, slice_get}
-use Rattle.scope_rules.specs.declared.types.capacity.Limits.{Limits}
-use Rattle.scope_rules.specs.declared.types.events.Event.{Event}
-use Rattle.scope_rules.specs.declared.types.events.Event.TheVariants.{Fork}
-use Rattle.scope_rules.specs.declared.types.values.Label.{Label}
-use Rattle.scope_rules.specs.History.{History}
-use Rattle.scope_rules.specs.Legal.{Legal}
-use Rattle.scope_rules.specs.Table.{check_of, is_already}
+use Rattle.std.specs.Prelude.{ℕ, ◌≡◌, None, Some, map, slice_get}
+use Rattle.scope_log.specs.Words.{Event, Fork, History, Label, Legal, Limits, check_of, is_already}
 
 -- the event, with a label that expects no end
 abbrev pub without_due : Event → Event

@@ -1,14 +1,7 @@
 -- A past that may be retired, and the two histories that go on from it: with the past, and with the
 -- base that a retirement leaves in its place.
-use Rattle.std.specs.Prelude.{◌≡◌, ℕ, ◌&&◌, ◌||◌, Bool, false, nat_le, nat_lt, None, List, ◌++◌, slice_get, Some}
-use Rattle.scope_rules.specs.declared.types.capacity.Limits.{Limits}
-use Rattle.scope_rules.specs.declared.types.events.Event.{Event}
-use Rattle.scope_rules.specs.declared.types.events.Event.TheVariants.{Open, Fork, Reject, Start, Finish, Cancel, Move, Tick, Bind, Unbind, Join, BeginClose, EndClose}
-use Rattle.scope_rules.specs.Origin.{Origin}
-use Rattle.scope_rules.specs.History.{History, scopes, tasks, moment}
-use Rattle.scope_rules.specs.Scopes.{innermost}
-use Rattle.scope_rules.specs.Bindings.{stack}
-use Rattle.scope_rules.specs.Legal.{Legal}
+use Rattle.std.specs.Prelude.{ℕ, ◌&&◌, ◌++◌, ◌||◌, ◌≡◌, Bool, List, None, Some, false, nat_le, nat_lt, slice_get}
+use Rattle.scope_log.specs.Words.{BeginClose, Bind, Cancel, EndClose, Event, Finish, Fork, History, Join, Legal, Limits, Move, Open, Origin, Reject, Start, Tick, Unbind, innermost, moment, scopes, stack, tasks}
 
 -- the number was discarded: it is one of the first so many
 abbrev pub is_let_go : ℕ → ℕ → Bool

@@ -1,23 +1,10 @@
 -- What can be distinguished from the entries of a log alone: each answer of a scope, by its own events and the
 -- mark of its cancellation.
-use Rattle.std.specs.Prelude.{ℕ, ◌==◌, ◌||◌, Bool, true, false, not, Option, Some, None, List, [], ◌∷◌, ◌++◌, count_by, if◌then◌else◌}
-use Rattle.std.specs.Option.{option_and_then, option_map_or}
-use Rattle.std.specs.List.{list_any, filter_map, find, before_first, after_first}
-use Rattle.scope_rules.specs.declared.types.answers.Cause.{Cause}
-use Rattle.scope_rules.specs.declared.types.answers.Counts.{Counts}
-use Rattle.scope_rules.specs.declared.types.answers.Stage.{Stage}
-use Rattle.scope_rules.specs.declared.types.answers.Stage.TheVariants.{Never, Waiting, Running, Finished}
-use Rattle.scope_rules.specs.declared.types.answers.State.{State}
-use Rattle.scope_rules.specs.declared.types.answers.State.TheVariants.{Unavailable}
-use Rattle.scope_rules.specs.declared.types.outcomes.Outcome.{Outcome}
-use Rattle.scope_rules.specs.declared.types.values.Completion.{Completion}
-use Rattle.scope_rules.specs.Answers.{Readable, values_by, listing_by, answer_of}
-use Rattle.scope_rules.specs.Joining.{has_failed, has_succeeded}
-use Rattle.scope_rules.specs.Tasks.{is_settled, is_stage, state_by_end}
-use Rattle.scope_log.specs.declared.entries.LogEntry.{LogEntry}
+use Rattle.std.specs.Prelude.{[], ℕ, ◌++◌, ◌==◌, ◌||◌, ◌∷◌, Bool, List, None, Option, Some, count_by, false, if◌then◌else◌, not, true}
+use Rattle.scope_log.specs.Words.{Cause, Completion, Counts, Finished, LogEntry, Never, Outcome, Readable, Running, Stage, State, Unavailable, Waiting, after_first, answer_of, before_first, filter_map, find, has_failed}
+use Rattle.scope_log.specs.Words.{has_succeeded, is_settled, is_stage, list_any, listing_by, option_and_then, option_map_or, state_by_end, values_by}
+use Rattle.scope_log.specs.{Log.LogValue, declared.previews.Preview.Preview}
 use Rattle.scope_log.specs.declared.entries.LogEntry.TheVariants as entry
-use Rattle.scope_log.specs.declared.previews.Preview.{Preview}
-use Rattle.scope_log.specs.Log.{LogValue}
 
 -- ---- the mark
 

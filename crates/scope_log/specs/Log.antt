@@ -1,17 +1,8 @@
 -- The log of a scope: the events that name it or a task of it, in order, and the mark of its
 -- cancellation, where it became cancelled.
-use Rattle.std.specs.Prelude.{ℕ, ◌+◌, ◌==◌, Bool, false, Option, Some, None, option_map, List, [], length, slice_get, if◌then◌else◌}
-use Rattle.std.specs.Option.{option_and_then}
-use Rattle.std.specs.List.{flat_map, cons_option, range_with_len}
-use Rattle.scope_rules.specs.declared.types.events.Event.{Event}
-use Rattle.scope_rules.specs.declared.types.events.Event.TheVariants.{Open, Fork, Reject, Start, Finish, Cancel, Move, Join, BeginClose, EndClose}
-use Rattle.scope_rules.specs.declared.types.events.Expiry.{Expiry}
-use Rattle.scope_rules.specs.declared.types.joiners.Policy.{Policy}
-use Rattle.scope_rules.specs.declared.types.answers.Cause.{Cause}
-use Rattle.scope_rules.specs.History.{History, before, followed, opening, scopes, tasks}
-use Rattle.scope_rules.specs.Cancels.{cause, cancelled_at, is_cancelled}
-use Rattle.scope_rules.specs.Completions.{is_task_of}
-use Rattle.scope_log.specs.declared.entries.LogEntry.{LogEntry}
+use Rattle.std.specs.Prelude.{[], ℕ, ◌+◌, ◌==◌, Bool, List, None, Option, Some, false, if◌then◌else◌, length, option_map, slice_get}
+use Rattle.scope_log.specs.Words.{BeginClose, Cancel, Cause, EndClose, Event, Expiry, Finish, Fork, History, Join, LogEntry, Move, Open, Policy, Reject, Start, before, cancelled_at, cause, cons_option, flat_map, followed}
+use Rattle.scope_log.specs.Words.{is_cancelled, is_task_of, opening, option_and_then, range_with_len, scopes, tasks}
 use Rattle.scope_log.specs.declared.entries.LogEntry.TheVariants as entry
 
 -- a scope's number, its joiner, what its deadline means for the join, and the entries

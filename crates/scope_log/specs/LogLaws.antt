@@ -1,22 +1,11 @@
 -- What holds of the log of each scope of a legal history: how it goes on, and that it tells what the
 -- history says of the scope.
-use Rattle.std.specs.Prelude.{◌≡◌, ℕ, ◌+◌, ◌-◌, ◌≤◌, true, None, Some, List, [], ◌∷◌, ◌++◌, length}
-use Rattle.std.specs.List.{filter, filter_map, range_with_len}
-use Rattle.scope_rules.specs.declared.types.answers.Cause.{Cause}
-use Rattle.scope_rules.specs.declared.types.capacity.Limits.{Limits}
-use Rattle.scope_rules.specs.declared.types.events.Event.{Event}
-use Rattle.scope_rules.specs.declared.types.events.Event.TheVariants.{Join}
-use Rattle.scope_rules.specs.declared.types.records.Opening.{Opening}
-use Rattle.scope_rules.specs.History.{History, followed, opening, task_numbers}
-use Rattle.scope_rules.specs.Cancels.{cause, cancelled_at}
-use Rattle.scope_rules.specs.Completions.{is_task_of, completions}
-use Rattle.scope_rules.specs.Tasks.{stage, state, counts, settled, ready}
-use Rattle.scope_rules.specs.Outcomes.{outcome, outcome_of}
-use Rattle.scope_rules.specs.Legal.{Accepts, Legal}
-use Rattle.scope_log.specs.declared.entries.LogEntry.{LogEntry}
+use Rattle.std.specs.Prelude.{[], ℕ, ◌++◌, ◌+◌, ◌-◌, ◌∷◌, ◌≡◌, ◌≤◌, List, None, Some, length, true}
+use Rattle.scope_log.specs.Words.{Accepts, Cause, Event, History, Join, Legal, Limits, LogEntry, Opening, cancelled_at, cause, completions, counts, filter, filter_map, followed, is_task_of, opening, outcome, outcome_of}
+use Rattle.scope_log.specs.Words.{range_with_len, ready, settled, stage, state, task_numbers}
+use Rattle.scope_log.specs.{LocalForms.answer_in, LocalForms.cause_in, LocalForms.completions_in, LocalForms.counts_in, LocalForms.outcome_in, LocalForms.ready_in, LocalForms.settled_in, LocalForms.stage_in, LocalForms.state_in}
+use Rattle.scope_log.specs.{LocalForms.tasks_in, LocalForms.with_join, Log.LogValue, Log.entries, Log.entries_next, Log.entry_at, Log.log}
 use Rattle.scope_log.specs.declared.entries.LogEntry.TheVariants as entry
-use Rattle.scope_log.specs.Log.{LogValue, entry_at, entries, entries_next, log}
-use Rattle.scope_log.specs.LocalForms.{cause_in, tasks_in, stage_in, state_in, counts_in, settled_in, ready_in, completions_in, answer_in, outcome_in, with_join}
 
 -- how the log of scope s goes on with the event, the next after h
 pub record LogGoesOn (h : History) (e : Event) (s : ℕ) : Type 0 where

@@ -1,19 +1,9 @@
 -- The text of a log: a line for each entry, in the words of the script.
-use Rattle.std.specs.Prelude.{ℕ, Bool, true, false, List, [], ◌∷◌, ◌++◌, Option, None, Some, Ok, Err, codes}
-use Rattle.std.specs.List.{flat_map}
-use Rattle.std.specs.Fmt.{decimal, signed_decimal}
-use Rattle.scope_rules.specs.declared.types.events.Expiry.{Expiry}
-use Rattle.scope_rules.specs.declared.types.events.Expiry.TheVariants.{Fail, MoveOn}
-use Rattle.scope_rules.specs.declared.types.events.Options.{Options}
-use Rattle.scope_rules.specs.declared.types.joiners.Policy.{Policy}
-use Rattle.scope_rules.specs.declared.types.joiners.Policy.TheVariants.{All, Any, AwaitAll, AwaitOk, Until}
-use Rattle.scope_rules.specs.declared.types.joiners.Rule.TheVariants.{FailuresAtLeast, SuccessesAtLeast, SumAtLeast}
-use Rattle.scope_rules.specs.Ends.{EndValue}
-use Rattle.scope_rules.specs.Names.{text_of}
-use Rattle.scope_rules.specs.Texts.{fault_text, kind_word, value_text}
-use Rattle.scope_log.specs.declared.entries.LogEntry.{LogEntry}
-use Rattle.scope_log.specs.declared.entries.LogEntry.TheVariants as entry
+use Rattle.std.specs.Prelude.{[], ℕ, ◌++◌, ◌∷◌, Bool, Err, List, None, Ok, Option, Some, codes, false, true}
+use Rattle.scope_log.specs.Words.{All, Any, AwaitAll, AwaitOk, EndValue, Expiry, Fail, FailuresAtLeast, LogEntry, MoveOn, Options, Policy, SuccessesAtLeast, SumAtLeast, Until, decimal, fault_text, flat_map, kind_word}
+use Rattle.scope_log.specs.Words.{signed_decimal, text_of, value_text}
 use Rattle.scope_log.specs.Log.{LogValue}
+use Rattle.scope_log.specs.declared.entries.LogEntry.TheVariants as entry
 
 -- the joiner of a scope
 abbrev pub joiner_text : Policy → List ℕ

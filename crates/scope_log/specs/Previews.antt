@@ -1,11 +1,6 @@
 -- What a join would give, by the history.
-use Rattle.std.specs.Prelude.{ℕ, Option, option_map}
-use Rattle.std.specs.Option.{option_and_then}
-use Rattle.scope_rules.specs.declared.types.events.Event.TheVariants.{Join}
-use Rattle.scope_rules.specs.History.{History, followed}
-use Rattle.scope_rules.specs.Outcomes.{outcome}
-use Rattle.scope_log.specs.declared.previews.Preview.{Preview}
-use Rattle.scope_log.specs.Log.{log}
+use Rattle.scope_log.specs.Words.{ℕ, History, Join, Option, followed, option_and_then, option_map, outcome}
+use Rattle.scope_log.specs.{Log.log, declared.previews.Preview.Preview}
 
 -- what scope s shows once the actor joined it, the next after h: its outcome, and its log
 unfoldable pub preview : History → ℕ → ℕ → Option Preview

@@ -1,20 +1,8 @@
 -- What a retirement leaves as it was: every answer to what names no number that was discarded.
-use Rattle.std.specs.Prelude.{◌≡◌, ℕ, ◌⊎◌, false, Err, List}
-use Rattle.scope_rules.specs.declared.types.capacity.Limits.{Limits}
-use Rattle.scope_rules.specs.declared.types.events.Event.{Event}
-use Rattle.scope_rules.specs.declared.types.refusals.Refusal.TheVariants.{TooMany}
-use Rattle.scope_rules.specs.History.{History, scopes, tasks, moment}
-use Rattle.scope_rules.specs.Scopes.{innermost, joined, closed, closing}
-use Rattle.scope_rules.specs.Cancels.{cause, is_cancelled, effective}
-use Rattle.scope_rules.specs.Tasks.{stage, state, counts}
-use Rattle.scope_rules.specs.Outcomes.{outcome}
-use Rattle.scope_rules.specs.Verdicts.{verdict}
-use Rattle.scope_rules.specs.Bindings.{bindings}
-use Rattle.scope_rules.specs.Nests.{outermost, inner, tasks_of, label, info}
-use Rattle.scope_rules.specs.Checks.{Checked, scope_check, task_check, actor_check}
-use Rattle.scope_rules.specs.Table.{check_of, is_already, until_check, reading_check}
-use Rattle.scope_rules.specs.Replies.{base_of}
-use Rattle.scope_log.specs.Folding.{is_let_go, names_let_go, Retirable, left, unretired, retired, NamesNone}
+use Rattle.std.specs.Prelude.{ℕ, ◌≡◌, ◌⊎◌, Err, List, false}
+use Rattle.scope_log.specs.Words.{Checked, Event, History, Limits, TooMany, actor_check, base_of, bindings, cause, check_of, closed, closing, counts, effective, info, inner, innermost, is_already, is_cancelled, joined, label}
+use Rattle.scope_log.specs.Words.{moment, outcome, outermost, reading_check, scope_check, scopes, stage, state, task_check, tasks, tasks_of, until_check, verdict}
+use Rattle.scope_log.specs.Folding.{NamesNone, Retirable, is_let_go, left, names_let_go, retired, unretired}
 
 -- the two checks are one, but where the first refuses too many: a base takes less of the limits
 abbrev pub RefusesAlike : Checked → Checked → Type 0

@@ -1,7 +1,7 @@
 //! The entries of a log.
 
 ghost use Rattle.std.specs.Prelude.{◌≡◌};
-ghost use Rattle.scope_log.specs.Log.{said_with};
+ghost use Rattle.scope_log.specs.{said_with};
 
 use scope_rules::{Actor, Cause, End, Event, Label, Options, Policy, TaskId};
 

@@ -1,7 +1,8 @@
 //! Laws of the log of a scope, for every legal history. Each function does nothing: its contract is the
 //! law.
 
-ghost use Rattle.scope_log.specs.LogLaws.{LogGrows, LogsAreMarked, LogsAreShort, LogTellsCause, LogTellsTasks, LogTellsStages, LogTellsStates, LogTellsCounts, LogTellsSettled, LogTellsReady, LogTellsCompletions, LogTellsNext, LogTellsOutcome, JoinsGoByLogs};
+ghost use Rattle.scope_log.specs.{JoinsGoByLogs, LogGrows, LogTellsCause, LogTellsCompletions, LogTellsCounts, LogTellsNext, LogTellsOutcome, LogTellsReady, LogTellsSettled, LogTellsStages, LogTellsStates, LogTellsTasks};
+ghost use Rattle.scope_log.specs.{LogsAreMarked, LogsAreShort};
 
 /// An accepted event adds its entry to the log of its scope, and the mark to the log of each scope that
 /// it cancels; all else stays.

@@ -1,7 +1,7 @@
 //! The log of a scope.
 
-ghost use Rattle.std.specs.Prelude.{◌≡◌, ◌+◌, ◌<◌, ◌^◌, length, IfOk};
-ghost use Rattle.scope_log.specs.LocalForms.{cause_in, stage_in, state_in, counts_in, ready_in, completions_in, outcome_in, preview_in};
+ghost use Rattle.std.specs.Prelude.{◌+◌, ◌<◌, ◌^◌, ◌≡◌, IfOk, length};
+ghost use Rattle.scope_log.specs.{cause_in, completions_in, counts_in, outcome_in, preview_in, ready_in, stage_in, state_in};
 
 use crate::entries::LogEntry;
 use crate::previews::Preview;

@@ -1,9 +1,7 @@
 //! What a join answered, by the entries before it.
 
-ghost use Rattle.std.specs.Prelude.{◌≡◌, ◌≤◌, ◌↔◌, length, false, IfOk, IfSome, IsNone};
-ghost use Rattle.std.specs.List.{list_any, position, before_first};
-ghost use Rattle.scope_rules.specs.Answers.{values_by, listing_by};
-ghost use Rattle.scope_log.specs.LocalForms.{tasks_in, state_in, readings_in, answer_in, is_join, outcome_in};
+ghost use Rattle.std.specs.Prelude.{◌↔◌, ◌≡◌, ◌≤◌, IfOk, IfSome, IsNone, false, length};
+ghost use Rattle.scope_log.specs.{answer_in, before_first, is_join, list_any, listing_by, outcome_in, position, readings_in, state_in, tasks_in, values_by};
 
 use crate::entries::LogEntry;
 use crate::readings::{before_mark, cause, completion_said, state, task_forked};

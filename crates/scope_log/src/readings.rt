@@ -1,10 +1,8 @@
 //! What the entries of a log tell, each answer by a look at them.
 
-ghost use Rattle.std.specs.Prelude.{◌≡◌, ◌+◌, ◌≤◌, ◌<◌, ◌^◌, length, count_by, false, option_map, IfOk};
-ghost use Rattle.std.specs.List.{list_any, position, position_or_len, find};
-ghost use Rattle.std.specs.Option.{option_map_or};
-ghost use Rattle.scope_log.specs.Counting.{total, counted};
-ghost use Rattle.scope_log.specs.LocalForms.{is_mark, cause_said, cause_in, before_mark, after_mark, task_forked, tasks_in, forks_task, rejects_task, starts_task, finishes_task, is_never_in, stage_in, completion_said, completions_in, is_end_of, state_in, is_at_in, counts_in, is_unsettled_in, settled_in, ready_in};
+ghost use Rattle.std.specs.Prelude.{◌+◌, ◌<◌, ◌^◌, ◌≡◌, ◌≤◌, IfOk, count_by, false, length, option_map};
+ghost use Rattle.scope_log.specs.{after_mark, before_mark, cause_in, cause_said, completion_said, completions_in, counted, counts_in, find, finishes_task, forks_task, is_at_in, is_end_of, is_mark, is_never_in, is_unsettled_in};
+ghost use Rattle.scope_log.specs.{list_any, option_map_or, position, position_or_len, ready_in, rejects_task, settled_in, stage_in, starts_task, state_in, task_forked, tasks_in, total};
 
 use crate::entries::LogEntry;
 use scope_rules::{Cause, Completion, Counts, Stage, State, TaskId};

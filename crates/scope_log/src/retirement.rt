@@ -1,7 +1,7 @@
 //! The law of retirement: what a retirement takes out of a history changes no answer that is given later, if no
 //! number is named that was dropped. The function does nothing: its contract is the law.
 
-ghost use Rattle.scope_log.specs.RetiringLaws.{RetiringLeavesTheBase, RetiringChangesNoAnswer, RetiringAgain};
+ghost use Rattle.scope_log.specs.{RetiringAgain, RetiringChangesNoAnswer, RetiringLeavesTheBase};
 
 /// If main has no scope that isn't closed, whatever follows is answered on the base that a
 /// retirement leaves as on the whole history, if no number is named that was dropped. A check that

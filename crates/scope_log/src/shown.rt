@@ -1,7 +1,7 @@
 //! How a log is shown: a line for each entry, in the words of the script.
 
 ghost use Rattle.std.specs.Prelude.{◌≡◌, Some};
-ghost use Rattle.scope_log.specs.LogText.{joiner_text, options_text, limit_text, expiry_text, shield_text, end_line, entry_line, lines_text, log_text};
+ghost use Rattle.scope_log.specs.{end_line, entry_line, expiry_text, joiner_text, limit_text, lines_text, log_text, options_text, shield_text};
 
 use crate::entries::LogEntry;
 use crate::log::ScopeLog;

@@ -1,11 +1,7 @@
 -- Rows that agree have a row of each task that acts.
-use Rattle.std.proofs.Common.{ℕ, inl, inr}
-use Rattle.scope_rules.specs.History.{History}
-use Rattle.scope_rules.proofs.PassedRows.{IsActor}
-use Rattle.scope_rows.specs.Table.{RowTable, HasActor}
-use Rattle.scope_rows.specs.Agreement.{AreRowsOf}
-use Rattle.scope_rows.proofs.Places.{forked_has}
-use Rattle.scope_rows.proofs.Unforked.{actor_split}
+use Rattle.scope_rows.specs.{AreRowsOf, HasActor, History, RowTable}
+use Rattle.scope_rows.proofs.Words.{ℕ, IsActor, inl, inr}
+use Rattle.scope_rows.proofs.{Places.forked_has, Unforked.actor_split}
 
 -- an actor that acts is main, or there is a row of it
 pub actor_has : (h : History) (t : RowTable) (a : ℕ) → AreRowsOf h t → IsActor h a → HasActor t a

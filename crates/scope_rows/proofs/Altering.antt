@@ -1,7 +1,7 @@
 -- Lists with one element changed, and with one put at the end.
-use Rattle.std.proofs.Common.{◌≡◌, ◌≢◌, ℕ, zero, suc, ◌<◌, Some, List, [], ◌∷◌, ◌++◌, length, get_or, slice_get, set, refl, ap, sym, ◌∙◌, arith, inl, inr, ◌⊎◌}
-use Rattle.std.proofs.lemmas.Bool.{cases_eq}
-use Rattle.scope_rows.specs.Steps.{altered}
+use Rattle.std.proofs.Common.{[], ℕ, ◌++◌, ◌<◌, ◌∙◌, ◌∷◌, ◌≡◌, ◌≢◌, ◌⊎◌, List, Some, ap, arith, get_or, inl, inr, length, refl, set, slice_get, suc, sym, zero}
+use Rattle.scope_rows.specs.{altered}
+use Rattle.scope_rows.proofs.Words.{cases_eq}
 
 -- a change leaves how many elements there are
 pub altered_length : {R : Type 0} (f : R → R) (xs : List R) (i : ℕ) → length (altered f xs i) ≡ length xs

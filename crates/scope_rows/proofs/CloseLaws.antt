@@ -1,34 +1,11 @@
 -- The rows after the beginning of a close.
-use Rattle.std.proofs.Common.{◌≡◌, ◌≢◌, ℕ, ◌+◌, ◌≤◌, ◌==◌, ◌&&◌, ◌||◌, Bool, true, false, not, Option, Some, None, slice_get, refl, ap, sym, subst, ◌∙◌, arith, inl, inr}
-use Rattle.std.proofs.lemmas.Bool.{eq-eqb, ne_eqb, or_right}
-use Rattle.std.specs.Option.{option_map}
-use Rattle.scope_rules.specs.declared.types.capacity.Limits.{Limits}
-use Rattle.scope_rules.specs.declared.types.events.Event.TheVariants.{BeginClose}
-use Rattle.scope_rules.specs.declared.types.records.Opening.{Opening}
-use Rattle.scope_rules.specs.History.{History, before, followed, is_open, is_fork}
-use Rattle.scope_rules.specs.Scopes.{innermost, closing, covers}
-use Rattle.scope_rules.specs.Checks.{is_innermost}
-use Rattle.scope_rules.specs.Verdicts.{violated, covers_another}
-use Rattle.scope_rules.specs.Legal.{Legal, Accepts}
-use Rattle.scope_rules.proofs.ClosingOwners.{live_is_unclosed}
-use Rattle.scope_rules.proofs.Innermosts.{HasUnclosed, unclosed_innermost, innermost_unclosed}
-use Rattle.scope_rules.proofs.InnermostSteps.{innermost_same}
-use Rattle.scope_rules.proofs.OneEventMore.{closing_grows}
-use Rattle.scope_rules.proofs.PassedRows.{begin_close_passed}
-use Rattle.scope_rules.proofs.VerdictSteps.{violated_grows, covers_by_innermost}
-use Rattle.scope_rows.specs.declared.records.ScopeRow.{ScopeRow}
-use Rattle.scope_rows.specs.Table.{RowTable, place_of, innermost_of}
-use Rattle.scope_rows.specs.Agreement.{AreRowsOf, IsScopeRow}
-use Rattle.scope_rows.specs.Steps.{altered, closing_row, violated_row, marked, marked_within, walk_length, is_this, close_begun}
-use Rattle.scope_rows.proofs.Altering.{altered_length, altered_split}
-use Rattle.scope_rows.proofs.Places.{scope_at, number_at, number_apart}
-use Rattle.scope_rows.proofs.Frames.{scope_on, scope_index, joining_same, closed_same, violated_same}
-use Rattle.scope_rows.proofs.Keeping.{count_same, counts_kept, tasks_kept}
-use Rattle.scope_rows.proofs.EndLaws.{below_is}
-use Rattle.scope_rows.proofs.Reading.{innermost_says}
-use Rattle.scope_rows.proofs.Marking.{marked_length}
-use Rattle.scope_rows.proofs.MarkLaws.{AreBelow, Marks, marks, unclosed_covered, covered_unclosed}
-use Rattle.scope_rows.proofs.Walks.{IsGreatestBelow, greatest_below}
+use Rattle.std.proofs.Common.{ℕ, ◌&&◌, ◌+◌, ◌==◌, ◌||◌, ◌∙◌, ◌≡◌, ◌≢◌, ◌≤◌, Bool, None, Option, Some, ap, arith, false, inl, inr, not, refl, slice_get, subst, sym, true}
+use Rattle.scope_rows.specs.{Accepts, AreRowsOf, BeginClose, History, IsScopeRow, Legal, Limits, Opening, RowTable, ScopeRow, altered, before, close_begun, closing, closing_row, covers, covers_another, followed, innermost}
+use Rattle.scope_rows.specs.{innermost_of, is_fork, is_innermost, is_open, is_this, marked, marked_within, option_map, place_of, violated, violated_row, walk_length}
+use Rattle.scope_rows.proofs.Words.{HasUnclosed, begin_close_passed, closing_grows, covers_by_innermost, eq-eqb, innermost_same, innermost_unclosed, live_is_unclosed, ne_eqb, or_right, unclosed_innermost, violated_grows}
+use Rattle.scope_rows.proofs.{Altering.altered_length, Altering.altered_split, EndLaws.below_is, Frames.closed_same, Frames.joining_same, Frames.scope_index, Frames.scope_on, Frames.violated_same, Keeping.count_same}
+use Rattle.scope_rows.proofs.{Keeping.counts_kept, Keeping.tasks_kept, MarkLaws.AreBelow, MarkLaws.Marks, MarkLaws.covered_unclosed, MarkLaws.marks, MarkLaws.unclosed_covered, Marking.marked_length, Places.number_apart}
+use Rattle.scope_rows.proofs.{Places.number_at, Places.scope_at, Reading.innermost_says, Walks.IsGreatestBelow, Walks.greatest_below}
 
 -- below each unclosed scope of an actor its row has the greatest that the actor has there
 pub are_below : (L : Limits) (h : History) (t : RowTable) (a : ℕ) → Legal L h → AreRowsOf h t → AreBelow h a t.scopes_before t.scopes

@@ -1,8 +1,6 @@
 -- What is written at the beginning of a close is what the step makes of the rows.
-use Rattle.std.proofs.Common.{◌≡◌, ℕ, Bool, not, Option, get_or, ap, ◌∙◌}
-use Rattle.scope_rows.specs.declared.records.ScopeRow.{ScopeRow}
-use Rattle.scope_rows.specs.Table.{RowTable, place_of, innermost_of}
-use Rattle.scope_rows.specs.Steps.{altered, violated_row, marked, is_this, close_begun}
+use Rattle.std.proofs.Common.{ℕ, ◌∙◌, ◌≡◌, Bool, Option, ap, get_or, not}
+use Rattle.scope_rows.specs.{RowTable, ScopeRow, altered, close_begun, innermost_of, is_this, marked, place_of, violated_row}
 use Rattle.scope_rows.proofs.Altering.{altered_read}
 
 -- the marks, and whether the close is out of order

@@ -1,19 +1,8 @@
 -- What one event more makes of the counts of a scope, if it moves a task to another stage or forks one.
-use Rattle.std.proofs.Common.{◌≡◌, ◌≢◌, ℕ, ◌+◌, ◌-◌, ◌==◌, ◌&&◌, Bool, true, false, cond, Some, refl, ap, sym, ◌∙◌, arith}
-use Rattle.scope_rules.specs.declared.types.capacity.Limits.{Limits}
-use Rattle.scope_rules.specs.declared.types.answers.Counts.{Counts}
-use Rattle.scope_rules.specs.declared.types.answers.Stage.{Stage}
-use Rattle.scope_rules.specs.declared.types.answers.Stage.TheVariants.{Never, Waiting, Running, Finished}
-use Rattle.scope_rules.specs.declared.types.events.Event.{Event}
-use Rattle.scope_rules.specs.declared.types.events.Event.TheVariants.{Fork}
-use Rattle.scope_rules.specs.declared.types.records.Forking.{Forking}
-use Rattle.scope_rules.specs.History.{History, followed, tasks, forking, is_fork}
-use Rattle.scope_rules.specs.Completions.{is_task_of}
-use Rattle.scope_rules.specs.Tasks.{rejects, starts, finishes, stage, is_at, is_stage, counts}
-use Rattle.scope_rules.specs.Legal.{Legal}
-use Rattle.scope_rules.proofs.Growing.{forking_stays}
-use Rattle.scope_rules.proofs.TallySteps.{tally, tally_moves, tally_forks}
-use Rattle.scope_rows.specs.Steps.{count_fork, count_taken, count_finish}
+use Rattle.std.proofs.Common.{ℕ, ◌&&◌, ◌+◌, ◌-◌, ◌==◌, ◌∙◌, ◌≡◌, ◌≢◌, Bool, Some, ap, arith, cond, false, refl, sym, true}
+use Rattle.scope_rows.specs.{Counts, Event, Finished, Fork, Forking, History, Legal, Limits, Never, Running, Stage, Waiting, count_finish, count_fork, count_taken, counts, finishes, followed, forking, is_at, is_fork, is_stage}
+use Rattle.scope_rows.specs.{is_task_of, rejects, stage, starts, tasks}
+use Rattle.scope_rows.proofs.Words.{forking_stays, tally, tally_forks, tally_moves}
 use Rattle.scope_rows.proofs.Frames.{counts_by, counts_same, tallies_of}
 
 -- whether a forked task is one of a scope at a stage

@@ -1,31 +1,9 @@
 -- How what is kept of own deadlines goes on by one event.
-use Rattle.std.proofs.Common.{◌≡◌, ◌≢◌, ℕ, ◌+◌, false, cond, Option, Some, None, [], ◌∷◌, refl, ap, sym, subst, ◌∙◌, arith, length-append}
-use Rattle.std.proofs.lemmas.Bool.{eq-eqb, ne_eqb}
-use Rattle.std.specs.Option.{option_and_then, option_map_or, option_or}
-use Rattle.scope_rules.specs.declared.types.capacity.Limits.{Limits}
-use Rattle.scope_rules.specs.declared.types.events.Event.{Event}
-use Rattle.scope_rules.specs.declared.types.events.Event.TheVariants.{Open, Move}
-use Rattle.scope_rules.specs.declared.types.events.Options.{Options}
-use Rattle.scope_rules.specs.declared.types.joiners.Policy.{Policy}
-use Rattle.scope_rules.specs.declared.types.records.Opening.{Opening}
-use Rattle.scope_rules.specs.Origin.{Origin}
-use Rattle.scope_rules.specs.Search.{last_of}
-use Rattle.scope_rules.specs.History.{History, followed, scopes, opening, is_open}
-use Rattle.scope_rules.specs.Cancels.{deadline, move_of}
-use Rattle.scope_rules.specs.Legal.{Legal}
-use Rattle.scope_rules.proofs.InnermostSteps.{next_opening}
-use Rattle.scope_rules.proofs.Innermosts.{opened_after}
-use Rattle.scope_rules.proofs.Nesting.{IsOpened}
-use Rattle.scope_rules.proofs.NewScopes.{moved_opened}
-use Rattle.scope_rules.proofs.OneEventMore.{opening_same, opening_other}
-use Rattle.scope_rules.proofs.Owing.{count_push}
-use Rattle.scope_rules.proofs.Prefixes.{last_of-push}
-use Rattle.scope_rows.specs.Table.{place_of}
-use Rattle.scope_rows.proofs.Altering.{altered_length}
-use Rattle.scope_rows.proofs.Keeping.{count_same}
-use Rattle.scope_rows.proofs.Places.{entry_there, opened_numbered, right_altered, right_pushed}
-use Rattle.scope_rows.specs.DeadlineTable.{DeadlineTable, HasDeadline, deadline_in, no_deadlines, with_open, with_deadline}
-use Rattle.scope_rows.specs.DeadlinesOf.{AreDeadlinesOf, moves_deadlines}
+use Rattle.std.proofs.Common.{[], ℕ, ◌+◌, ◌∙◌, ◌∷◌, ◌≡◌, ◌≢◌, None, Option, Some, ap, arith, cond, false, length-append, refl, subst, sym}
+use Rattle.scope_rows.specs.{AreDeadlinesOf, DeadlineTable.DeadlineTable, Event, HasDeadline, History, Legal, Limits, Move, Open, Opening, Options, Origin, Policy, deadline, deadline_in, followed, is_open, last_of, move_of}
+use Rattle.scope_rows.specs.{moves_deadlines, no_deadlines, opening, option_and_then, option_map_or, option_or, place_of, scopes, with_deadline, with_open}
+use Rattle.scope_rows.proofs.Words.{IsOpened, count_push, eq-eqb, last_of-push, moved_opened, ne_eqb, next_opening, opened_after, opening_other, opening_same}
+use Rattle.scope_rows.proofs.{Altering.altered_length, Keeping.count_same, Places.entry_there, Places.opened_numbered, Places.right_altered, Places.right_pushed}
 
 -- ---- what is there
 

@@ -1,10 +1,6 @@
 -- No rows agree with a history of no events.
-use Rattle.std.proofs.Common.{◌≡◌, ℕ, Some, None, [], length, slice_get, refl, ap, sym, ◌∙◌}
-use Rattle.scope_rules.specs.Origin.{Origin}
-use Rattle.scope_rules.specs.Search.{latest}
-use Rattle.scope_rules.specs.Scopes.{innermost}
-use Rattle.scope_rows.specs.Table.{RowTable}
-use Rattle.scope_rows.specs.Agreement.{AreRowsOf}
+use Rattle.std.proofs.Common.{[], ℕ, ◌∙◌, ◌≡◌, None, Some, ap, length, refl, slice_get, sym}
+use Rattle.scope_rows.specs.{AreRowsOf, Origin, RowTable, innermost, latest}
 
 no_innermost : (b : Origin) (a : ℕ) → innermost (record { base = b; events = [] }) a ≡ None
 unfolding innermost latest

@@ -1,27 +1,10 @@
 -- The rows after the end of a close.
-use Rattle.std.proofs.Common.{◌≡◌, ◌≢◌, ℕ, ◌||◌, true, Some, refl, ap, sym, ◌∙◌}
-use Rattle.std.proofs.lemmas.Bool.{eq-eqb, ne_eqb, or_right}
-use Rattle.std.specs.Option.{option_and_then}
-use Rattle.scope_rules.specs.declared.types.capacity.Limits.{Limits}
-use Rattle.scope_rules.specs.declared.types.events.Event.TheVariants.{EndClose}
-use Rattle.scope_rules.specs.declared.types.records.Opening.{Opening}
-use Rattle.scope_rules.specs.History.{History, before, followed, is_open, is_fork}
-use Rattle.scope_rules.specs.Scopes.{innermost, closed}
-use Rattle.scope_rules.specs.Legal.{Legal, Accepts}
-use Rattle.scope_rules.proofs.InnermostEnds.{innermost_ended}
-use Rattle.scope_rules.proofs.InnermostSteps.{innermost_end_other}
-use Rattle.scope_rules.proofs.OneEventMore.{closed_grows}
-use Rattle.scope_rules.proofs.PassedRows.{end_close_passed}
-use Rattle.scope_rows.specs.declared.records.ScopeRow.{ScopeRow}
-use Rattle.scope_rows.specs.Table.{RowTable, place_of}
-use Rattle.scope_rows.specs.Agreement.{AreRowsOf, IsScopeRow}
-use Rattle.scope_rows.specs.Steps.{altered, closed_row, below_of, close_ended}
-use Rattle.scope_rows.proofs.Altering.{altered_length}
-use Rattle.scope_rows.proofs.Places.{ScopeRowAt, scope_at, scope_row_is, AreRight, right_altered}
-use Rattle.scope_rows.proofs.Frames.{scope_on, scope_index, joining_same, closing_same, violated_same}
-use Rattle.scope_rows.proofs.Keeping.{count_same, counts_kept}
-use Rattle.scope_rows.proofs.InnerMoves.{main_moved, tasks_moved, tasks_length}
-use Rattle.scope_rows.proofs.Actors.{actor_has}
+use Rattle.std.proofs.Common.{ℕ, ◌||◌, ◌∙◌, ◌≡◌, ◌≢◌, Some, ap, refl, sym, true}
+use Rattle.scope_rows.specs.{Accepts, AreRowsOf, EndClose, History, IsScopeRow, Legal, Limits, Opening, RowTable, ScopeRow, altered, before, below_of, close_ended, closed, closed_row, followed, innermost, is_fork, is_open}
+use Rattle.scope_rows.specs.{option_and_then, place_of}
+use Rattle.scope_rows.proofs.Words.{closed_grows, end_close_passed, eq-eqb, innermost_end_other, innermost_ended, ne_eqb, or_right}
+use Rattle.scope_rows.proofs.{Actors.actor_has, Altering.altered_length, Frames.closing_same, Frames.joining_same, Frames.scope_index, Frames.scope_on, Frames.violated_same, InnerMoves.main_moved, InnerMoves.tasks_length}
+use Rattle.scope_rows.proofs.{InnerMoves.tasks_moved, Keeping.count_same, Keeping.counts_kept, Places.AreRight, Places.ScopeRowAt, Places.right_altered, Places.scope_at, Places.scope_row_is}
 
 -- what the row of a scope says is below it
 pub below_is : (h : History) (t : RowTable) (s : ℕ) (it : ScopeRowAt h t s) → below_of t.scopes_before t.scopes s ≡ it.row.below

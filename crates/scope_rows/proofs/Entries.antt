@@ -1,9 +1,7 @@
 -- What is written into a list that goes by numbers.
-use Rattle.std.proofs.Common.{◌≡◌, ℕ, length, set, ap, ◌∙◌}
-use Rattle.scope_rows.specs.Table.{place_of}
-use Rattle.scope_rows.specs.Numbered.{Entries, HasEntry, with_entry}
-use Rattle.scope_rows.proofs.Altering.{altered_set}
-use Rattle.scope_rows.proofs.Places.{place_within}
+use Rattle.std.proofs.Common.{ℕ, ◌∙◌, ◌≡◌, ap, length, set}
+use Rattle.scope_rows.specs.{Entries, HasEntry, place_of, with_entry}
+use Rattle.scope_rows.proofs.{Altering.altered_set, Places.place_within}
 
 -- what is written at the number's place is its entry
 pub entry_written : {R : Type 0} (v t : Entries R) (n at : ℕ) (x : R) → v ≡ t → at ≡ place_of t.before n → HasEntry t n → record v { items = set v.items at x } ≡ with_entry t n x

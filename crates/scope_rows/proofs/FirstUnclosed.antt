@@ -1,16 +1,7 @@
 -- Which scope is the first of an actor's unclosed ones after another.
-use Rattle.std.proofs.Common.{◌≡◌, ℕ, zero, suc, ◌+◌, ◌<◌, ◌≤◌, ◌==◌, ◌&&◌, not, cond, nat_lt, Option, Some, None, refl, ap, subst, ◌∙◌, arith}
-use Rattle.std.proofs.lemmas.Bool.{eqb-true, eq-eqb, lt-ltb, ltb-true, and_parts, not-true}
-use Rattle.std.proofs.lemmas.Option.{same_Some}
-use Rattle.std.specs.Option.{option_and_then}
-use Rattle.scope_rules.specs.declared.types.records.Opening.{Opening}
-use Rattle.scope_rules.specs.Search.{earliest}
-use Rattle.scope_rules.specs.History.{History, opened_count, opening}
-use Rattle.scope_rules.specs.Scopes.{closed, unclosed_of}
-use Rattle.scope_rules.specs.Nests.{unclosed_after, next_unclosed, outermost}
-use Rattle.scope_rules.proofs.Innermosts.{HasUnclosed, opened_after}
-use Rattle.scope_rules.proofs.Openings.{and_then_some, if_some}
-use Rattle.scope_rules.proofs.Searching.{earliest_found, earliest_same}
+use Rattle.std.proofs.Common.{ℕ, ◌&&◌, ◌+◌, ◌<◌, ◌==◌, ◌∙◌, ◌≡◌, ◌≤◌, None, Option, Some, ap, arith, cond, nat_lt, not, refl, subst, suc, zero}
+use Rattle.scope_rows.specs.{History, Opening, closed, earliest, next_unclosed, opened_count, opening, option_and_then, outermost, unclosed_after, unclosed_of}
+use Rattle.scope_rows.proofs.Words.{HasUnclosed, and_parts, and_then_some, earliest_found, earliest_same, eq-eqb, eqb-true, if_some, lt-ltb, ltb-true, not-true, opened_after, same_Some}
 
 -- the number of a scope, if the actor opened it and has not closed it
 abbrev number : History → ℕ → ℕ → Option ℕ

@@ -1,34 +1,11 @@
 -- The rows after a fork.
-use Rattle.std.proofs.Common.{◌≡◌, ℕ, ◌+◌, ◌==◌, Bool, true, false, cond, Option, Some, None, [], ◌∷◌, ◌++◌, length, refl, ap, sym, ◌∙◌, arith, length-append}
-use Rattle.std.proofs.lemmas.Bool.{eq-eqb, ne_eqb, or_from}
-use Rattle.std.specs.Option.{option_map_or}
-use Rattle.scope_rules.specs.declared.types.capacity.Limits.{Limits}
-use Rattle.scope_rules.specs.declared.types.answers.Stage.TheVariants.{Never, Waiting}
-use Rattle.scope_rules.specs.declared.types.answers.State.TheVariants.{Unavailable}
-use Rattle.scope_rules.specs.declared.types.events.Event.TheVariants.{Fork}
-use Rattle.scope_rules.specs.declared.types.records.Ending.{Ending}
-use Rattle.scope_rules.specs.declared.types.records.Forking.{Forking}
-use Rattle.scope_rules.specs.History.{History, followed, tasks, forked_count, forking, is_open, is_fork}
-use Rattle.scope_rules.specs.Scopes.{innermost}
-use Rattle.scope_rules.specs.Cancels.{is_cancelled}
-use Rattle.scope_rules.specs.Tasks.{stage, state_of, ending, finished}
-use Rattle.scope_rules.specs.Legal.{Legal, Accepts}
-use Rattle.scope_rules.proofs.InnermostSteps.{innermost_same}
-use Rattle.scope_rules.proofs.OneEventMore.{finished_grows}
-use Rattle.scope_rules.proofs.Owing.{count_push}
-use Rattle.scope_rules.proofs.PassedRows.{fork_passed}
-use Rattle.scope_rules.proofs.StageSteps.{next_forking, stage_forked}
-use Rattle.scope_rules.proofs.StateSteps.{no_ending, state_is}
-use Rattle.scope_rows.specs.declared.records.ScopeRow.{ScopeRow}
-use Rattle.scope_rows.specs.Table.{RowTable, place_of}
-use Rattle.scope_rows.specs.Agreement.{AreRowsOf, IsScopeRow, IsTaskRow}
-use Rattle.scope_rows.specs.Steps.{altered, recount, count_fork, new_task_row, forked}
-use Rattle.scope_rows.proofs.Altering.{altered_length}
-use Rattle.scope_rows.proofs.Places.{opened_has, AreRight, right_altered, right_pushed}
-use Rattle.scope_rows.proofs.Frames.{scope_on, scope_index, task_kept, joining_same, closing_same, closed_same, violated_same}
-use Rattle.scope_rows.proofs.Keeping.{count_same}
-use Rattle.scope_rows.proofs.CountMoves.{fork_elsewhere, fork_counted}
-use Rattle.scope_rows.proofs.Unforked.{next_unforked, unforked_innermost, unforked_unfinished}
+use Rattle.std.proofs.Common.{[], ℕ, ◌++◌, ◌+◌, ◌==◌, ◌∙◌, ◌∷◌, ◌≡◌, Bool, None, Option, Some, ap, arith, cond, false, length, length-append, refl, sym, true}
+use Rattle.scope_rows.specs.{Accepts, AreRowsOf, Ending, Fork, Forking, History, IsScopeRow, IsTaskRow, Legal, Limits, Never, RowTable, ScopeRow, Unavailable, Waiting, Words.finished, altered, count_fork, ending, followed, forked}
+use Rattle.scope_rows.specs.{forked_count, forking, innermost, is_cancelled, is_fork, is_open, new_task_row, option_map_or, place_of, recount, stage, state_of, tasks}
+use Rattle.scope_rows.proofs.Words.{count_push, eq-eqb, finished_grows, fork_passed, innermost_same, ne_eqb, next_forking, no_ending, or_from, stage_forked, state_is}
+use Rattle.scope_rows.proofs.{Altering.altered_length, CountMoves.fork_counted, CountMoves.fork_elsewhere, Frames.closed_same, Frames.closing_same, Frames.joining_same, Frames.scope_index, Frames.scope_on, Frames.task_kept}
+use Rattle.scope_rows.proofs.{Frames.violated_same, Keeping.count_same, Places.AreRight, Places.opened_has, Places.right_altered, Places.right_pushed, Unforked.next_unforked, Unforked.unforked_innermost}
+use Rattle.scope_rows.proofs.{Unforked.unforked_unfinished}
 
 module _ (L : Limits) (h : History) (t : RowTable) (f : Forking) (cancelled : Bool) (legal : Legal L h) (ok : Accepts L h (Fork f.actor f.scope f.label)) (are : AreRowsOf h t) (at_end : f.place ≡ length h.events) (cut : cancelled ≡ is_cancelled h f.scope) where
   -- the forking of the new task

@@ -1,34 +1,8 @@
 -- What one event more leaves of a row.
-use Rattle.std.proofs.Common.{◌≡◌, ℕ, ◌||◌, Bool, true, false, cond, Option, Some, None, length, refl, ap, ◌∙◌, arith}
-use Rattle.std.specs.Option.{option_or}
-use Rattle.scope_rules.specs.declared.types.capacity.Limits.{Limits}
-use Rattle.scope_rules.specs.declared.types.answers.Counts.{Counts}
-use Rattle.scope_rules.specs.declared.types.answers.Stage.{Stage}
-use Rattle.scope_rules.specs.declared.types.answers.Stage.TheVariants.{Never, Waiting, Running, Finished}
-use Rattle.scope_rules.specs.declared.types.answers.State.{State}
-use Rattle.scope_rules.specs.declared.types.events.Event.{Event}
-use Rattle.scope_rules.specs.declared.types.events.Event.TheVariants.{Finish}
-use Rattle.scope_rules.specs.History.{History, followed}
-use Rattle.scope_rules.specs.Scopes.{joins, closing, begins_closing, closed, ends, innermost}
-use Rattle.scope_rules.specs.Outcomes.{joining}
-use Rattle.scope_rules.specs.Verdicts.{violated, begins_for}
-use Rattle.scope_rules.specs.Tasks.{rejects, starts, finishes, ending_of, stage, state, counts}
-use Rattle.scope_rules.specs.Bindings.{stack}
-use Rattle.scope_rules.specs.Legal.{Legal}
-use Rattle.scope_rules.proofs.ChainsGrow.{parent_stays}
-use Rattle.scope_rules.proofs.Earlier.{opening_within}
-use Rattle.scope_rules.proofs.Growing.{opening_stays, forking_stays}
-use Rattle.scope_rules.proofs.OneEventMore.{closing_grows, closed_grows}
-use Rattle.scope_rules.proofs.Prefixes.{option_or-none}
-use Rattle.scope_rules.proofs.Pushing.{before_push}
-use Rattle.scope_rules.proofs.StageSteps.{stage_same}
-use Rattle.scope_rules.proofs.StateSteps.{state_stays}
-use Rattle.scope_rules.proofs.TallySteps.{tally}
-use Rattle.scope_rules.proofs.VerdictSteps.{violated_grows}
-use Rattle.scope_rows.specs.declared.records.ScopeRow.{ScopeRow}
-use Rattle.scope_rows.specs.declared.records.TaskRow.{TaskRow}
-use Rattle.scope_rows.specs.Table.{inner_of}
-use Rattle.scope_rows.specs.Agreement.{IsScopeRow, IsTaskRow}
+use Rattle.std.proofs.Common.{ℕ, ◌||◌, ◌∙◌, ◌≡◌, Bool, None, Option, Some, ap, arith, cond, false, length, refl, true}
+use Rattle.scope_rows.specs.{Counts, Event, Finish, Finished, History, IsScopeRow, IsTaskRow, Legal, Limits, Never, Running, ScopeRow, Stage, State, TaskRow, Waiting, begins_closing, begins_for, closed, closing, counts, ending_of}
+use Rattle.scope_rows.specs.{ends, finishes, followed, inner_of, innermost, joining, joins, option_or, rejects, stack, stage, starts, state, violated}
+use Rattle.scope_rows.proofs.Words.{before_push, closed_grows, closing_grows, forking_stays, opening_stays, opening_within, option_or-none, parent_stays, stage_same, state_stays, tally, violated_grows}
 use Rattle.scope_rows.proofs.Joinings.{joining_grows}
 
 -- a row after one event more, by what the event may change

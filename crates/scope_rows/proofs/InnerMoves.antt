@@ -1,21 +1,9 @@
 -- The rows of tasks, and main's innermost scope, after an event that moves the innermost scope of one actor.
-use Rattle.std.proofs.Common.{◌≡◌, ◌≢◌, ℕ, ◌+◌, ◌==◌, Bool, true, false, cond, Option, Some, None, unwrap_or, length, slice_get, refl, ap, sym, ◌∙◌, arith, inl, inr}
-use Rattle.std.proofs.lemmas.Bool.{eqb-true, eq-eqb, ne_eqb}
-use Rattle.scope_rules.specs.declared.types.capacity.Limits.{Limits}
-use Rattle.scope_rules.specs.declared.types.events.Event.{Event}
-use Rattle.scope_rules.specs.History.{History, followed}
-use Rattle.scope_rules.specs.Scopes.{innermost}
-use Rattle.scope_rules.specs.Tasks.{rejects, starts, finishes}
-use Rattle.scope_rules.specs.Legal.{Legal}
-use Rattle.scope_rules.proofs.Earlier.{scope_given}
-use Rattle.scope_rules.proofs.Innermosts.{innermost_unclosed}
-use Rattle.scope_rows.specs.declared.records.TaskRow.{TaskRow}
-use Rattle.scope_rows.specs.Table.{RowTable, HasActor, HasTask, inner_of, place_of}
-use Rattle.scope_rows.specs.Agreement.{AreRowsOf, IsTaskRow}
-use Rattle.scope_rows.specs.Steps.{altered, with_inner, main_with, tasks_with}
-use Rattle.scope_rows.proofs.Altering.{altered_length}
-use Rattle.scope_rows.proofs.Places.{AreRight, right_altered}
-use Rattle.scope_rows.proofs.Frames.{task_moved, task_kept}
+use Rattle.std.proofs.Common.{ℕ, ◌+◌, ◌==◌, ◌∙◌, ◌≡◌, ◌≢◌, Bool, None, Option, Some, ap, arith, cond, false, inl, inr, length, refl, slice_get, sym, true, unwrap_or}
+use Rattle.scope_rows.specs.{AreRowsOf, Event, HasActor, HasTask, History, IsTaskRow, Legal, Limits, RowTable, TaskRow, altered, finishes, followed, inner_of, innermost, main_with, place_of, rejects, starts, tasks_with}
+use Rattle.scope_rows.specs.{with_inner}
+use Rattle.scope_rows.proofs.Words.{eq-eqb, eqb-true, innermost_unclosed, ne_eqb, scope_given}
+use Rattle.scope_rows.proofs.{Altering.altered_length, Frames.task_kept, Frames.task_moved, Places.AreRight, Places.right_altered}
 
 -- an actor that is not main has a row
 not_main : (t : RowTable) (a : ℕ) → (a == 0) ≡ false → HasActor t a → HasTask t a

@@ -1,27 +1,10 @@
 -- The rows after a join.
-use Rattle.std.proofs.Common.{◌≡◌, ◌≢◌, ℕ, false, cond, Some, None, length, refl, ap, sym, subst, ◌∙◌}
-use Rattle.std.proofs.lemmas.Bool.{eq-eqb, ne_eqb}
-use Rattle.std.specs.Option.{option_or}
-use Rattle.scope_rules.specs.declared.types.capacity.Limits.{Limits}
-use Rattle.scope_rules.specs.declared.types.events.Event.TheVariants.{Join}
-use Rattle.scope_rules.specs.History.{History, followed, is_open, is_fork}
-use Rattle.scope_rules.specs.Scopes.{joined}
-use Rattle.scope_rules.specs.Outcomes.{joining}
-use Rattle.scope_rules.specs.Table.{row_check}
-use Rattle.scope_rules.specs.Legal.{Legal, Accepts}
-use Rattle.scope_rules.proofs.Accepted.{checks_at, not_refused}
-use Rattle.scope_rules.proofs.InnermostSteps.{innermost_same}
-use Rattle.scope_rules.proofs.NewScopes.{scope_passed}
-use Rattle.scope_rules.proofs.Nesting.{IsOpened}
-use Rattle.scope_rows.specs.declared.records.ScopeRow.{ScopeRow}
-use Rattle.scope_rows.specs.Table.{RowTable, HasScope, place_of}
-use Rattle.scope_rows.specs.Agreement.{AreRowsOf, IsScopeRow}
-use Rattle.scope_rows.specs.Steps.{joined_row, joined as joined_rows}
-use Rattle.scope_rows.proofs.Altering.{altered_length}
-use Rattle.scope_rows.proofs.Places.{opened_has, right_altered}
-use Rattle.scope_rows.proofs.Joinings.{joining_grows, unjoined}
-use Rattle.scope_rows.proofs.Frames.{scope_on, scope_index, closing_same, closed_same, violated_same}
-use Rattle.scope_rows.proofs.Keeping.{count_same, counts_kept, tasks_kept}
+use Rattle.std.proofs.Common.{ℕ, ◌∙◌, ◌≡◌, ◌≢◌, None, Some, ap, cond, false, length, refl, subst, sym}
+use Rattle.scope_rows.specs.{Accepts, AreRowsOf, HasScope, History, IsScopeRow, Join, Legal, Limits, RowTable, ScopeRow, Words.joined, followed, is_fork, is_open, joined_row, joining, option_or, place_of, row_check}
+use Rattle.scope_rows.proofs.Words.{IsOpened, checks_at, eq-eqb, innermost_same, ne_eqb, not_refused, scope_passed}
+use Rattle.scope_rows.proofs.{Altering.altered_length, Frames.closed_same, Frames.closing_same, Frames.scope_index, Frames.scope_on, Frames.violated_same, Joinings.joining_grows, Joinings.unjoined, Keeping.count_same}
+use Rattle.scope_rows.proofs.{Keeping.counts_kept, Keeping.tasks_kept, Places.opened_has, Places.right_altered}
+use Rattle.scope_rows.specs.Steps.{joined as joined_rows}
 
 -- what is accepted to be joined was opened, and isn't joined
 pub join_passed : (L : Limits) (h : History) (a s : ℕ) → Accepts L h (Join a s) → IsOpened h s × (joined h s ≡ false)

@@ -1,16 +1,7 @@
 -- The place of a scope's join: what one event more makes of it, and that it says whether the scope is joined.
-use Rattle.std.proofs.Common.{◌≡◌, ℕ, zero, suc, ◌≤◌, ◌||◌, Bool, true, false, cond, is_some, Option, Some, None, [], ◌∷◌, ◌++◌, length, refl, ap, sym, subst, ◌∙◌, arith, length-append, add-one}
-use Rattle.std.specs.Option.{option_and_then, option_or}
-use Rattle.scope_rules.specs.declared.types.events.Event.{Event}
-use Rattle.scope_rules.specs.Search.{earliest}
-use Rattle.scope_rules.specs.History.{History, before, followed}
-use Rattle.scope_rules.specs.Scopes.{joins, joined}
-use Rattle.scope_rules.specs.Outcomes.{joining, joining_at}
-use Rattle.scope_rules.proofs.Accepted.{entry_at}
-use Rattle.scope_rules.proofs.OneEventMore.{last_event, joined_grows}
-use Rattle.scope_rules.proofs.Prefixes.{get_push, take_at}
-use Rattle.scope_rules.proofs.Pushing.{before_all}
-use Rattle.scope_rules.proofs.Searching.{earliest_same}
+use Rattle.std.proofs.Common.{[], ℕ, ◌++◌, ◌||◌, ◌∙◌, ◌∷◌, ◌≡◌, ◌≤◌, Bool, None, Option, Some, add-one, ap, arith, cond, false, is_some, length, length-append, refl, subst, suc, sym, true, zero}
+use Rattle.scope_rows.specs.{Event, History, Words.joined, before, earliest, followed, joining, joining_at, joins, option_and_then, option_or}
+use Rattle.scope_rows.proofs.Words.{before_all, earliest_same, entry_at, get_push, joined_grows, last_event, take_at}
 
 -- the place of a join stays, or is that of the event
 pub joining_grows : (h : History) (e : Event) (s : ℕ) → joining (followed h e) s ≡ option_or (joining h s) (cond (joins s e) (Some (length h.events)) None)

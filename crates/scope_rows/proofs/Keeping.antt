@@ -1,21 +1,9 @@
 -- How rows go on if no scope is opened and no task forked.
-use Rattle.std.proofs.Common.{◌≡◌, ℕ, ◌+◌, Bool, false, cond, Option, Some, slice_get, count_by, refl, ap, sym, ◌∙◌, arith}
-use Rattle.scope_rules.specs.declared.types.capacity.Limits.{Limits}
-use Rattle.scope_rules.specs.declared.types.events.Event.{Event}
-use Rattle.scope_rules.specs.declared.types.events.Event.TheVariants.{Cancel, Move, Tick, Bind, Unbind}
-use Rattle.scope_rules.specs.declared.types.events.Binding.{Binding}
-use Rattle.scope_rules.specs.History.{History, followed, is_open, is_fork}
-use Rattle.scope_rules.specs.Scopes.{joins, begins_closing, ends, innermost}
-use Rattle.scope_rules.specs.Verdicts.{begins_for}
-use Rattle.scope_rules.specs.Tasks.{rejects, starts, finishes, counts}
-use Rattle.scope_rules.specs.Legal.{Legal}
-use Rattle.scope_rules.proofs.InnermostSteps.{innermost_same}
-use Rattle.scope_rules.proofs.Owing.{count_push}
-use Rattle.scope_rules.proofs.TallySteps.{tally_stays}
-use Rattle.scope_rows.specs.declared.records.TaskRow.{TaskRow}
-use Rattle.scope_rows.specs.Table.{RowTable}
-use Rattle.scope_rows.specs.Agreement.{AreRowsOf, IsTaskRow}
-use Rattle.scope_rows.proofs.Frames.{scope_index, task_kept, counts_same}
+use Rattle.std.proofs.Common.{ℕ, ◌+◌, ◌∙◌, ◌≡◌, Bool, Option, Some, ap, arith, cond, count_by, false, refl, slice_get, sym}
+use Rattle.scope_rows.specs.{AreRowsOf, Bind, Binding, Cancel, Event, History, IsTaskRow, Legal, Limits, Move, RowTable, TaskRow, Tick, Unbind, begins_closing, begins_for, counts, ends, finishes, followed, innermost, is_fork}
+use Rattle.scope_rows.specs.{is_open, joins, rejects, starts}
+use Rattle.scope_rows.proofs.Words.{count_push, innermost_same, tally_stays}
+use Rattle.scope_rows.proofs.Frames.{counts_same, scope_index, task_kept}
 
 -- a kind of event is counted no more often by an event of another kind
 pub count_same : (kind : Event → Bool) (h : History) (e : Event) → kind e ≡ false → count_by kind (followed h e).events ≡ count_by kind h.events

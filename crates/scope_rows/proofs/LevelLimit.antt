@@ -1,27 +1,9 @@
 -- In a legal history no scope lies deeper than the limit of levels.
-use Rattle.std.proofs.Common.{◌≡◌, ℕ, zero, suc, ◌+◌, ◌<◌, ◌≤◌, Option, Some, None, [], length, refl, ap, sym, subst, ◌∙◌, arith, inl, inr}
-use Rattle.std.specs.Option.{option_and_then, option_map_or}
-use Rattle.std.proofs.lemmas.Bool.{ltb-false}
-use Rattle.scope_rules.specs.declared.types.capacity.Limits.{Limits}
-use Rattle.scope_rules.specs.declared.types.capacity.TheConstants.{LEVEL_LIMIT}
-use Rattle.scope_rules.specs.declared.types.events.Event.{Event}
-use Rattle.scope_rules.specs.declared.types.events.Event.TheVariants.{Open}
-use Rattle.scope_rules.specs.declared.types.records.Opening.{Opening}
-use Rattle.scope_rules.specs.Origin.{Origin}
-use Rattle.scope_rules.specs.Search.{earliest}
-use Rattle.scope_rules.specs.History.{History, before, followed, opening, opening_of}
-use Rattle.scope_rules.specs.Scopes.{surrounding, around, parent, level, next_level}
-use Rattle.scope_rules.specs.Table.{row_check}
-use Rattle.scope_rules.specs.Legal.{Legal, Accepts}
-use Rattle.scope_rules.proofs.Accepted.{checks_at, not_refused}
-use Rattle.scope_rules.proofs.ChainsGrow.{parent_stays}
-use Rattle.scope_rules.proofs.Growing.{opening_place}
-use Rattle.scope_rules.proofs.Levels.{level_by_parent}
-use Rattle.scope_rules.proofs.Nesting.{IsOpened, legal_before, opened_before, surrounding_opened}
-use Rattle.scope_rules.proofs.OneEventMore.{along, opening_split}
-use Rattle.scope_rules.proofs.Openings.{and_then_some}
-use Rattle.scope_rules.proofs.Parents.{parent_smaller}
-use Rattle.scope_rules.proofs.Pushing.{before_last, legal_push}
+use Rattle.std.proofs.Common.{[], ℕ, ◌+◌, ◌<◌, ◌∙◌, ◌≡◌, ◌≤◌, None, Option, Some, ap, arith, inl, inr, length, refl, subst, suc, sym, zero}
+use Rattle.scope_rows.specs.{Accepts, Event, History, LEVEL_LIMIT, Legal, Limits, Open, Opening, Origin, around, before, earliest, followed, level, next_level, opening, opening_of, option_and_then, option_map_or, parent}
+use Rattle.scope_rows.specs.{row_check, surrounding}
+use Rattle.scope_rows.proofs.Words.{IsOpened, along, and_then_some, before_last, checks_at, legal_before, legal_push, level_by_parent, ltb-false, not_refused, opened_before, opening_place, opening_split, parent_smaller}
+use Rattle.scope_rows.proofs.Words.{parent_stays, surrounding_opened}
 
 -- the parent of a scope was opened
 parent_opened : (L : Limits) (h : History) (s p : ℕ) → Legal L h → parent h s ≡ Some p → IsOpened h p

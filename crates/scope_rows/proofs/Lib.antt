@@ -28,3 +28,4 @@ pub mod DeadlineSteps
 pub mod LevelLimit
 pub mod FirstUnclosed
 pub mod NestWalks
+mod Words

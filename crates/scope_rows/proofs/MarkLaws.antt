@@ -1,18 +1,8 @@
 -- The scopes that the walk marks are those that the beginning of a close covers.
-use Rattle.std.proofs.Common.{◌≡◌, ◌≢◌, ℕ, zero, suc, ◌+◌, ◌<◌, ◌≤◌, ◌==◌, ◌&&◌, ◌||◌, ◌⊎◌, Bool, true, false, not, cond, nat_lt, Option, Some, None, List, [], ◌∷◌, slice_get, refl, ap, sym, subst, ◌∙◌, arith, inl, inr}
-use Rattle.std.specs.Option.{option_map, option_and_then}
-use Rattle.std.proofs.lemmas.Bool.{eqb-true, eq-eqb, ne_eqb, ltb-true, lt-ltb, and_parts, or_cases, not-true, cases_eq, both_ways}
-use Rattle.scope_rules.specs.declared.types.records.Opening.{Opening}
-use Rattle.scope_rules.specs.History.{History, opening}
-use Rattle.scope_rules.specs.Scopes.{closed, covers, have_one_opener}
-use Rattle.scope_rules.proofs.Innermosts.{HasUnclosed}
-use Rattle.scope_rows.specs.declared.records.ScopeRow.{ScopeRow}
-use Rattle.scope_rows.specs.Table.{place_of}
-use Rattle.scope_rows.specs.Steps.{altered, below_of, closing_row, marked_within}
-use Rattle.scope_rows.proofs.Altering.{altered_other}
-use Rattle.scope_rows.proofs.Marking.{marked_none}
-use Rattle.scope_rows.proofs.Places.{number_at}
-use Rattle.scope_rows.proofs.Walks.{IsGreatestBelow}
+use Rattle.std.proofs.Common.{[], ℕ, ◌&&◌, ◌+◌, ◌<◌, ◌==◌, ◌||◌, ◌∙◌, ◌∷◌, ◌≡◌, ◌≢◌, ◌≤◌, ◌⊎◌, Bool, List, None, Option, Some, ap, arith, cond, false, inl, inr, nat_lt, not, refl, slice_get, subst, suc, sym, true, zero}
+use Rattle.scope_rows.specs.{History, Opening, ScopeRow, altered, below_of, closed, closing_row, covers, have_one_opener, marked_within, opening, option_and_then, option_map, place_of}
+use Rattle.scope_rows.proofs.Words.{HasUnclosed, and_parts, both_ways, cases_eq, eq-eqb, eqb-true, lt-ltb, ltb-true, ne_eqb, not-true, or_cases}
+use Rattle.scope_rows.proofs.{Altering.altered_other, Marking.marked_none, Places.number_at, Walks.IsGreatestBelow}
 
 -- the element at a changed place, if there is one
 altered_at : {R : Type 0} (f : R → R) (xs : List R) (i : ℕ) → slice_get (altered f xs i) i ≡ option_map f (slice_get xs i)

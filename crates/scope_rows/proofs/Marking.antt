@@ -1,14 +1,8 @@
 -- The walk that marks scopes as closing, step by step.
-use Rattle.std.proofs.Common.{◌≡◌, ◌≢◌, ℕ, zero, suc, ◌+◌, ◌<◌, ◌≤◌, ◌==◌, Bool, true, false, cond, Option, Some, None, List, length, get_or, slice_get, IfSome, refl, ap, sym, subst, ◌∙◌, arith, inl, inr}
-use Rattle.std.specs.Option.{option_and_then}
-use Rattle.std.proofs.lemmas.Bool.{eq-eqb, ne_eqb}
-use Rattle.scope_rows.specs.declared.records.ScopeRow.{ScopeRow}
-use Rattle.scope_rows.specs.Table.{IsNumbered, place_of}
-use Rattle.scope_rows.specs.Numbered.{Entries}
-use Rattle.scope_rows.specs.Steps.{altered, below_of, closing_row, onward_from, marked_within, walk_length, marked}
-use Rattle.scope_rows.specs.Wants.{AreLinked}
-use Rattle.scope_rows.proofs.Altering.{altered_length, altered_split, altered_read}
-use Rattle.scope_rows.proofs.Places.{row_is, place_within, number_read}
+use Rattle.std.proofs.Common.{ℕ, ◌+◌, ◌<◌, ◌==◌, ◌∙◌, ◌≡◌, ◌≢◌, ◌≤◌, Bool, IfSome, List, None, Option, Some, ap, arith, cond, false, get_or, inl, inr, length, refl, slice_get, subst, suc, sym, true, zero}
+use Rattle.scope_rows.specs.{AreLinked, Entries, IsNumbered, ScopeRow, altered, below_of, closing_row, marked, marked_within, onward_from, option_and_then, place_of, walk_length}
+use Rattle.scope_rows.proofs.Words.{eq-eqb, ne_eqb}
+use Rattle.scope_rows.proofs.{Altering.altered_length, Altering.altered_read, Altering.altered_split, Places.number_read, Places.place_within, Places.row_is}
 
 -- what is left to mark makes of the rows so far what there was to mark made of the rows at first
 pub record IsMarkedOn (before s : ℕ) (next : Option ℕ) (rows : List ScopeRow) (from : Option ℕ) (first : List ScopeRow) : Type 0 where

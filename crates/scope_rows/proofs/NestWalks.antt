@@ -1,22 +1,8 @@
 -- The walk down an actor's unclosed scopes, step by step.
-use Rattle.std.proofs.Common.{◌≡◌, ℕ, ◌+◌, ◌<◌, ◌≤◌, ◌⊎◌, Option, Some, None, refl, ap, sym, subst, ◌∙◌, arith, inl, inr}
-use Rattle.std.specs.Option.{option_or}
-use Rattle.std.proofs.lemmas.Bool.{cases_lt}
-use Rattle.scope_rules.specs.declared.types.capacity.Limits.{Limits}
-use Rattle.scope_rules.specs.declared.types.capacity.TheConstants.{LEVEL_LIMIT}
-use Rattle.scope_rules.specs.History.{History, before}
-use Rattle.scope_rules.specs.Scopes.{innermost, forked_in, surrounding, level}
-use Rattle.scope_rules.specs.Legal.{Legal}
-use Rattle.scope_rules.specs.Nests.{next_unclosed}
-use Rattle.scope_rules.proofs.Innermosts.{HasUnclosed, innermost_unclosed, unclosed_innermost}
-use Rattle.scope_rows.specs.Agreement.{AreRowsOf}
-use Rattle.scope_rows.specs.Steps.{below_of}
-use Rattle.scope_rows.specs.Table.{RowTable}
-use Rattle.scope_rows.proofs.CloseLaws.{are_below}
-use Rattle.scope_rows.proofs.EndLaws.{below_is}
-use Rattle.scope_rows.proofs.Places.{scope_at}
-use Rattle.scope_rows.proofs.FirstUnclosed.{next_none, next_is}
-use Rattle.scope_rows.proofs.LevelLimit.{level_within, level_counts, level_below}
+use Rattle.std.proofs.Common.{ℕ, ◌+◌, ◌<◌, ◌∙◌, ◌≡◌, ◌≤◌, ◌⊎◌, None, Option, Some, ap, arith, inl, inr, refl, subst, sym}
+use Rattle.scope_rows.specs.{AreRowsOf, History, LEVEL_LIMIT, Legal, Limits, RowTable, before, below_of, forked_in, innermost, level, next_unclosed, option_or, surrounding}
+use Rattle.scope_rows.proofs.Words.{HasUnclosed, cases_lt, innermost_unclosed, unclosed_innermost}
+use Rattle.scope_rows.proofs.{CloseLaws.are_below, EndLaws.below_is, FirstUnclosed.next_is, FirstUnclosed.next_none, LevelLimit.level_below, LevelLimit.level_counts, LevelLimit.level_within, Places.scope_at}
 
 -- an unclosed scope of the actor is the one that was found last, or comes after it, or is still to come
 abbrev IsMet : Option ℕ → Option ℕ → ℕ → Type 0

@@ -1,30 +1,10 @@
 -- The rows after an open.
-use Rattle.std.proofs.Common.{◌≡◌, ◌≢◌, ℕ, ◌+◌, Some, Option, [], ◌∷◌, ◌++◌, length, refl, ap, sym, ◌∙◌, arith, length-append}
-use Rattle.std.specs.Option.{option_and_then}
-use Rattle.scope_rules.specs.declared.types.capacity.Limits.{Limits}
-use Rattle.scope_rules.specs.declared.types.events.Event.TheVariants.{Open}
-use Rattle.scope_rules.specs.declared.types.answers.Stage.TheVariants.{Never, Waiting, Running, Finished}
-use Rattle.scope_rules.specs.declared.types.records.Opening.{Opening}
-use Rattle.scope_rules.specs.History.{History, before, followed, scopes, opened_count, opening, is_open, is_fork}
-use Rattle.scope_rules.specs.Scopes.{innermost, surrounding, around, parent}
-use Rattle.scope_rules.specs.Bindings.{stack}
-use Rattle.scope_rules.specs.Legal.{Legal, Accepts}
-use Rattle.scope_rules.proofs.InnermostSteps.{next_opening, innermost_opened, innermost_open_other}
-use Rattle.scope_rules.proofs.NewScopes.{HasNoTask, no_tally}
-use Rattle.scope_rules.proofs.OneEventMore.{forking_same}
-use Rattle.scope_rules.proofs.Owing.{count_push}
-use Rattle.scope_rules.proofs.PassedRows.{open_passed}
-use Rattle.scope_rules.proofs.Pushing.{before_last}
-use Rattle.scope_rows.specs.Table.{RowTable, innermost_of}
-use Rattle.scope_rows.specs.Agreement.{AreRowsOf, IsScopeRow}
-use Rattle.scope_rows.specs.Steps.{new_scope_row, opened}
-use Rattle.scope_rows.proofs.Places.{AreRight, right_pushed}
-use Rattle.scope_rows.proofs.Frames.{scope_index, joining_same, closing_same, closed_same, violated_same, counts_by}
-use Rattle.scope_rows.proofs.Keeping.{count_same, counts_kept}
-use Rattle.scope_rows.proofs.InnerMoves.{main_moved, tasks_moved, tasks_length}
-use Rattle.scope_rows.proofs.Reading.{innermost_says}
-use Rattle.scope_rows.proofs.Unopened.{next_unopened, unopened_unsaid}
-use Rattle.scope_rows.proofs.Actors.{actor_has}
+use Rattle.std.proofs.Common.{[], ℕ, ◌++◌, ◌+◌, ◌∙◌, ◌∷◌, ◌≡◌, ◌≢◌, Option, Some, ap, arith, length, length-append, refl, sym}
+use Rattle.scope_rows.specs.{Accepts, AreRowsOf, Finished, History, IsScopeRow, Legal, Limits, Never, Open, Opening, RowTable, Running, Waiting, around, before, followed, innermost, innermost_of, is_fork, is_open, new_scope_row}
+use Rattle.scope_rows.specs.{opened, opened_count, opening, option_and_then, parent, scopes, stack, surrounding}
+use Rattle.scope_rows.proofs.Words.{HasNoTask, before_last, count_push, forking_same, innermost_open_other, innermost_opened, next_opening, no_tally, open_passed}
+use Rattle.scope_rows.proofs.{Actors.actor_has, Frames.closed_same, Frames.closing_same, Frames.counts_by, Frames.joining_same, Frames.scope_index, Frames.violated_same, InnerMoves.main_moved, InnerMoves.tasks_length}
+use Rattle.scope_rows.proofs.{InnerMoves.tasks_moved, Keeping.count_same, Keeping.counts_kept, Places.AreRight, Places.right_pushed, Reading.innermost_says, Unopened.next_unopened, Unopened.unopened_unsaid}
 
 module _ (L : Limits) (h : History) (t : RowTable) (o : Opening) (inside : Option ℕ) (height : ℕ) (legal : Legal L h) (ok : Accepts L h (Open o.actor o.policy o.options)) (are : AreRowsOf h t) (at_end : o.place ≡ length h.events) (parent_is : inside ≡ surrounding h o.actor) (height_is : height ≡ length (stack h o.actor)) where
   -- the opening of the new scope

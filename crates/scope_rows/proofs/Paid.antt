@@ -1,20 +1,7 @@
 -- A legal history has no more events than its load pays for, so the place of a fork fits 32 bits.
-use Rattle.std.proofs.Common.{ℕ, ◌+◌, ◌≤◌, ◌<◌, ◌^◌, [], ◌∷◌, length, refl, arith, length-append}
-use Rattle.std.proofs.lemmas.Bool.{ltb-false}
-use Rattle.scope_rules.specs.declared.types.capacity.Limits.{Limits}
-use Rattle.scope_rules.specs.declared.types.events.Event.{Event}
-use Rattle.scope_rules.specs.declared.types.events.Event.TheVariants.{Fork}
-use Rattle.scope_rules.specs.declared.types.values.Label.{Label}
-use Rattle.scope_rules.specs.Origin.{Origin}
-use Rattle.scope_rules.specs.History.{History, followed}
-use Rattle.scope_rules.specs.Legal.{Accepts, Legal}
-use Rattle.scope_rules.specs.Load.{load}
-use Rattle.scope_rules.specs.Owed.{missing, owed}
-use Rattle.scope_rules.specs.Table.{row_check}
-use Rattle.scope_rules.proofs.Accepted.{checks_at, not_refused}
-use Rattle.scope_rules.proofs.OneEventMore.{along}
-use Rattle.scope_rules.proofs.Owing.{owed_event}
-use Rattle.scope_rules.proofs.Pushing.{load_push}
+use Rattle.std.proofs.Common.{[], ℕ, ◌+◌, ◌<◌, ◌^◌, ◌∷◌, ◌≤◌, arith, length, length-append, refl}
+use Rattle.scope_rows.specs.{Accepts, Event, Fork, History, Label, Legal, Limits, Origin, followed, load, missing, owed, row_check}
+use Rattle.scope_rows.proofs.Words.{along, checks_at, load_push, ltb-false, not_refused, owed_event}
 
 -- the load pays for the events, and for what may still come at no cost
 record IsPaid (h : History) : Type 0 where

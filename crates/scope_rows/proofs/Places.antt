@@ -1,19 +1,9 @@
 -- Where the row of a scope or a task stands.
-use Rattle.std.proofs.Common.{◌≡◌, ◌≢◌, ℕ, ◌+◌, ◌<◌, ◌≤◌, cond, Option, Some, None, List, [], ◌∷◌, ◌++◌, length, slice_get, slice_index_or, ap, sym, ◌∙◌, arith, subst, inl, inr}
-use Rattle.std.specs.Option.{option_map_or}
-use Rattle.std.proofs.lemmas.Bool.{lt-ltb}
-use Rattle.std.proofs.lemmas.Option.{slice_get-get_or, slice_get_within}
-use Rattle.scope_rules.specs.declared.types.records.Forking.{Forking}
-use Rattle.scope_rules.specs.History.{History, forking, opened_count}
-use Rattle.scope_rules.proofs.Nesting.{IsOpened}
-use Rattle.scope_rules.proofs.Forkings.{IsForked, forked_after}
-use Rattle.scope_rules.proofs.Innermosts.{opened_after}
-use Rattle.scope_rows.specs.declared.records.ScopeRow.{ScopeRow}
-use Rattle.scope_rows.specs.declared.records.TaskRow.{TaskRow}
-use Rattle.scope_rows.specs.Table.{RowTable, IsNumbered, HasScope, HasTask, place_of, row_of, scope_row, task_row, scope_of}
-use Rattle.scope_rows.specs.Agreement.{AreRowsOf, IsScopeRow, IsTaskRow}
-use Rattle.scope_rows.specs.Steps.{altered}
-use Rattle.scope_rows.proofs.Altering.{there_is, altered_split, pushed_split}
+use Rattle.std.proofs.Common.{[], ℕ, ◌++◌, ◌+◌, ◌<◌, ◌∙◌, ◌∷◌, ◌≡◌, ◌≢◌, ◌≤◌, List, None, Option, Some, ap, arith, cond, inl, inr, length, slice_get, slice_index_or, subst, sym}
+use Rattle.scope_rows.specs.{AreRowsOf, Forking, HasScope, HasTask, History, IsNumbered, IsScopeRow, IsTaskRow, RowTable, ScopeRow, TaskRow, altered, forking, opened_count, option_map_or, place_of, row_of, scope_of, scope_row}
+use Rattle.scope_rows.specs.{task_row}
+use Rattle.scope_rows.proofs.Words.{IsForked, IsOpened, forked_after, lt-ltb, opened_after, slice_get-get_or, slice_get_within}
+use Rattle.scope_rows.proofs.Altering.{altered_split, pushed_split, there_is}
 
 -- the place of a number's row is within the rows
 pub place_within : (before len n : ℕ) → before < n → n ≤ before + len → place_of before n < len

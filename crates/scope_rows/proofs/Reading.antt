@@ -1,19 +1,9 @@
 -- What is read of the rows is what the history says.
-use Rattle.std.proofs.Common.{◌≡◌, ◌≢◌, ℕ, ◌<◌, ◌≤◌, ◌==◌, Bool, true, false, cond, nat_lt, Option, Some, None, List, slice_get, Bor, MatchOption, refl, ap, sym, subst, ◌∙◌, arith}
-use Rattle.std.specs.Option.{option_map, option_and_then}
-use Rattle.std.proofs.lemmas.Bool.{ltb-true, eqb-true, eq-eqb}
-use Rattle.scope_rules.specs.declared.types.capacity.Limits.{Limits}
-use Rattle.scope_rules.specs.declared.types.records.Forking.{Forking}
-use Rattle.scope_rules.specs.declared.types.records.Opening.{Opening}
-use Rattle.scope_rules.specs.History.{History, opening, forking}
-use Rattle.scope_rules.specs.Scopes.{innermost}
-use Rattle.scope_rules.specs.Legal.{Legal}
-use Rattle.scope_rows.specs.declared.records.ScopeRow.{ScopeRow}
-use Rattle.scope_rows.specs.declared.records.TaskRow.{TaskRow}
-use Rattle.scope_rows.specs.Table.{RowTable, place_of, row_of, scope_row, task_row, inner_of, innermost_of}
-use Rattle.scope_rows.specs.Agreement.{AreRowsOf, IsScopeRow, IsTaskRow}
-use Rattle.scope_rows.proofs.Places.{number_at, scope_at, task_at, scope_row_is, task_row_is}
-use Rattle.scope_rows.proofs.Unforked.{unforked_innermost}
+use Rattle.std.proofs.Common.{ℕ, ◌<◌, ◌==◌, ◌∙◌, ◌≡◌, ◌≢◌, ◌≤◌, Bool, Bor, List, MatchOption, None, Option, Some, ap, arith, cond, false, nat_lt, refl, slice_get, subst, sym, true}
+use Rattle.scope_rows.specs.{AreRowsOf, Forking, History, IsScopeRow, IsTaskRow, Legal, Limits, Opening, RowTable, ScopeRow, TaskRow, forking, inner_of, innermost, innermost_of, opening, option_and_then, option_map, place_of}
+use Rattle.scope_rows.specs.{row_of, scope_row, task_row}
+use Rattle.scope_rows.proofs.Words.{eq-eqb, eqb-true, ltb-true}
+use Rattle.scope_rows.proofs.{Places.number_at, Places.scope_at, Places.scope_row_is, Places.task_at, Places.task_row_is, Unforked.unforked_innermost}
 
 -- a row stands after the numbers before
 row_after : {R : Type 0} (before : ℕ) (rows : List R) (n : ℕ) (r : R) → row_of before rows n ≡ Some r → (before < n) × (slice_get rows (place_of before n) ≡ Some r)

@@ -1,38 +1,13 @@
 -- The rows after a reject, a start and an end of a task.
-use Rattle.std.proofs.Common.{◌≡◌, ℕ, ◌==◌, Bool, true, false, cond, Some, None, length, refl, ap, sym, subst, ◌∙◌}
-use Rattle.std.proofs.lemmas.Bool.{eq-eqb, ne_eqb}
-use Rattle.scope_rules.specs.declared.types.capacity.Limits.{Limits}
-use Rattle.scope_rules.specs.declared.types.answers.Counts.{Counts}
-use Rattle.scope_rules.specs.declared.types.answers.Stage.{Stage}
-use Rattle.scope_rules.specs.declared.types.answers.Stage.TheVariants.{Never, Waiting, Running, Finished}
-use Rattle.scope_rules.specs.declared.types.answers.State.TheVariants.{Unavailable}
-use Rattle.scope_rules.specs.declared.types.events.Event.{Event}
-use Rattle.scope_rules.specs.declared.types.events.Event.TheVariants.{Reject, Start, Finish}
-use Rattle.scope_rules.specs.declared.types.records.Forking.{Forking}
-use Rattle.scope_rules.specs.Ends.{EndValue}
-use Rattle.scope_rules.specs.History.{History, followed, forking, is_open, is_fork}
-use Rattle.scope_rules.specs.Scopes.{joins, begins_closing, ends, innermost}
-use Rattle.scope_rules.specs.Cancels.{is_cancelled}
-use Rattle.scope_rules.specs.Verdicts.{begins_for}
-use Rattle.scope_rules.specs.Tasks.{ending_of, stage, is_waiting, is_running, counts, state_by_end}
-use Rattle.scope_rules.specs.Legal.{Legal, Accepts}
-use Rattle.scope_rules.proofs.Accepted.{running_task}
-use Rattle.scope_rules.proofs.InnermostSteps.{innermost_same}
-use Rattle.scope_rules.proofs.PassedRows.{start_passed, reject_passed, finish_passed}
-use Rattle.scope_rules.proofs.Stages.{waiting_forked, running_forked}
-use Rattle.scope_rules.proofs.StageSteps.{stage_started, stage_rejected, stage_finished}
-use Rattle.scope_rules.proofs.StateSteps.{state_stays, state_ended}
-use Rattle.scope_rows.specs.declared.records.ScopeRow.{ScopeRow}
-use Rattle.scope_rows.specs.declared.records.TaskRow.{TaskRow}
-use Rattle.scope_rows.specs.Table.{RowTable, place_of, scope_of}
-use Rattle.scope_rows.specs.Agreement.{AreRowsOf, IsScopeRow, IsTaskRow}
-use Rattle.scope_rows.specs.Steps.{altered, recount, moved, stage_row, ended_row, state_at_end, taken, rejected, started, finished, count_taken, count_finish}
-use Rattle.scope_rows.proofs.Altering.{altered_length}
-use Rattle.scope_rows.proofs.Places.{task_at, scope_of_is, opened_has, AreRight, right_altered}
-use Rattle.scope_rows.proofs.Frames.{scope_on, scope_index, task_on, task_kept, joining_same, closing_same, closed_same, violated_same}
-use Rattle.scope_rows.proofs.Keeping.{count_same}
-use Rattle.scope_rows.proofs.CountMoves.{NamesAlone, is_taken, counts_elsewhere, counts_taken, counts_finished}
-use Rattle.scope_rules.proofs.Nesting.{forked_opened}
+use Rattle.std.proofs.Common.{ℕ, ◌==◌, ◌∙◌, ◌≡◌, Bool, None, Some, ap, cond, false, length, refl, subst, sym, true}
+use Rattle.scope_rows.specs.{Accepts, AreRowsOf, Counts, EndValue, Event, Finish, Finished, Forking, History, IsScopeRow, IsTaskRow, Legal, Limits, Never, Reject, RowTable, Running, ScopeRow, Stage, Start, Steps.finished, TaskRow}
+use Rattle.scope_rows.specs.{Unavailable, Waiting, altered, begins_closing, begins_for, count_finish, count_taken, counts, ended_row, ending_of, ends, followed, forking, innermost, is_cancelled, is_fork, is_open, is_running}
+use Rattle.scope_rows.specs.{is_waiting, joins, moved, place_of, recount, rejected, scope_of, stage, stage_row, started, state_at_end, state_by_end, taken}
+use Rattle.scope_rows.proofs.Words.{eq-eqb, finish_passed, forked_opened, innermost_same, ne_eqb, reject_passed, running_forked, running_task, stage_finished, stage_rejected, stage_started, start_passed, state_ended, state_stays}
+use Rattle.scope_rows.proofs.Words.{waiting_forked}
+use Rattle.scope_rows.proofs.{Altering.altered_length, CountMoves.NamesAlone, CountMoves.counts_elsewhere, CountMoves.counts_finished, CountMoves.counts_taken, CountMoves.is_taken, Frames.closed_same, Frames.closing_same}
+use Rattle.scope_rows.proofs.{Frames.joining_same, Frames.scope_index, Frames.scope_on, Frames.task_kept, Frames.task_on, Frames.violated_same, Keeping.count_same, Places.AreRight, Places.opened_has, Places.right_altered}
+use Rattle.scope_rows.proofs.{Places.scope_of_is, Places.task_at}
 
 -- what waits is at the stage of it
 pub waiting_is : (x : Stage) → is_waiting x ≡ true → x ≡ Waiting

@@ -1,17 +1,7 @@
 -- Of a task that was never forked nothing is said.
-use Rattle.std.proofs.Common.{◌≡◌, ◌≢◌, ℕ, ◌+◌, Bool, true, false, None, refl, ap, sym, ◌∙◌, arith, inl, inr, ◌⊎◌}
-use Rattle.std.proofs.lemmas.Bool.{false_from_ne_true}
-use Rattle.scope_rules.specs.declared.types.capacity.Limits.{Limits}
-use Rattle.scope_rules.specs.History.{History, tasks, forking}
-use Rattle.scope_rules.specs.Scopes.{closed, innermost}
-use Rattle.scope_rules.specs.Tasks.{finished}
-use Rattle.scope_rules.specs.Legal.{Legal}
-use Rattle.scope_rules.proofs.ClosingOwners.{owners_act}
-use Rattle.scope_rules.proofs.Forkings.{IsForked, forked_after}
-use Rattle.scope_rules.proofs.Innermosts.{innermost_is_none}
-use Rattle.scope_rules.proofs.PassedRows.{IsActor}
-use Rattle.scope_rules.proofs.Stages.{running_forked}
-use Rattle.scope_rules.proofs.StageSteps.{finished_forked}
+use Rattle.std.proofs.Common.{ℕ, ◌+◌, ◌∙◌, ◌≡◌, ◌≢◌, ◌⊎◌, Bool, None, ap, arith, false, inl, inr, refl, sym, true}
+use Rattle.scope_rows.specs.{History, Legal, Limits, Words.finished, closed, forking, innermost, tasks}
+use Rattle.scope_rows.proofs.Words.{IsActor, IsForked, false_from_ne_true, finished_forked, forked_after, innermost_is_none, owners_act, running_forked}
 
 -- the next number was given to no task
 pub next_unforked : (h : History) → IsForked h (tasks h + 1) → ⊥

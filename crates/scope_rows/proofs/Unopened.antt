@@ -1,26 +1,9 @@
 -- Of a scope that was never opened nothing is said.
-use Rattle.std.proofs.Common.{◌≡◌, ◌≢◌, ℕ, ◌+◌, ◌==◌, ◌&&◌, ◌||◌, Bool, true, false, not, nat_lt, Option, Some, None, [], refl, sym, subst, ◌∙◌, arith, inl, inr}
-use Rattle.std.proofs.lemmas.Bool.{eqb-true, and_parts, or_cases, both_ways, false_from_ne_true}
-use Rattle.scope_rules.specs.declared.types.capacity.Limits.{Limits}
-use Rattle.scope_rules.specs.declared.types.events.Event.{Event}
-use Rattle.scope_rules.specs.declared.types.events.Event.TheVariants.{BeginClose}
-use Rattle.scope_rules.specs.declared.types.records.Forking.{Forking}
-use Rattle.scope_rules.specs.declared.types.records.Opening.{Opening}
-use Rattle.scope_rules.specs.Origin.{Origin}
-use Rattle.scope_rules.specs.Search.{some_below}
-use Rattle.scope_rules.specs.History.{History, followed, scopes, opening, forking}
-use Rattle.scope_rules.specs.Scopes.{joined, closing, closed, covers, begins_closing, have_one_opener}
-use Rattle.scope_rules.specs.Outcomes.{joining}
-use Rattle.scope_rules.specs.Verdicts.{violated, begins_for, covers_another}
-use Rattle.scope_rules.specs.Legal.{Legal, Accepts}
-use Rattle.scope_rules.proofs.Growing.{opening_stays}
-use Rattle.scope_rules.proofs.Innermosts.{opened_after}
-use Rattle.scope_rules.proofs.InnermostSteps.{closed_opened}
-use Rattle.scope_rules.proofs.Nesting.{IsOpened, forked_opened}
-use Rattle.scope_rules.proofs.NewScopes.{joined_opened}
-use Rattle.scope_rules.proofs.OneEventMore.{along, closing_grows}
-use Rattle.scope_rules.proofs.PassedRows.{begin_close_passed}
-use Rattle.scope_rules.proofs.VerdictSteps.{violated_grows}
+use Rattle.std.proofs.Common.{[], ℕ, ◌&&◌, ◌+◌, ◌==◌, ◌||◌, ◌∙◌, ◌≡◌, ◌≢◌, Bool, None, Option, Some, arith, false, inl, inr, nat_lt, not, refl, subst, sym, true}
+use Rattle.scope_rows.specs.{Accepts, BeginClose, Event, Forking, History, Legal, Limits, Opening, Origin, Words.joined, begins_closing, begins_for, closed, closing, covers, covers_another, followed, forking, have_one_opener}
+use Rattle.scope_rows.specs.{joining, opening, scopes, some_below, violated}
+use Rattle.scope_rows.proofs.Words.{IsOpened, along, and_parts, begin_close_passed, both_ways, closed_opened, closing_grows, eqb-true, false_from_ne_true, forked_opened, joined_opened, opened_after, opening_stays, or_cases}
+use Rattle.scope_rows.proofs.Words.{violated_grows}
 use Rattle.scope_rows.proofs.Joinings.{unjoined}
 
 -- the next number was given to no scope

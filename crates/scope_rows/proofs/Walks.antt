@@ -1,16 +1,8 @@
 -- What the walk down from an actor's innermost scope meets: each unclosed scope of the actor, from the
 -- latest down.
-use Rattle.std.proofs.Common.{◌≡◌, ℕ, ◌<◌, ◌≤◌, false, Option, Some, arith}
-use Rattle.scope_rules.specs.declared.types.capacity.Limits.{Limits}
-use Rattle.scope_rules.specs.declared.types.records.Opening.{Opening}
-use Rattle.scope_rules.specs.History.{History, before, opening}
-use Rattle.scope_rules.specs.Scopes.{closed, innermost}
-use Rattle.scope_rules.specs.Legal.{Legal}
-use Rattle.scope_rules.proofs.Earlier.{unclosed_before}
-use Rattle.scope_rules.proofs.Growing.{opening_number}
-use Rattle.scope_rules.proofs.Innermosts.{HasUnclosed, opened_after, innermost_unclosed, unclosed_innermost}
-use Rattle.scope_rules.proofs.InnermostEnds.{opened_first, unclosed_around}
-use Rattle.scope_rules.proofs.OneEventMore.{opening_later}
+use Rattle.std.proofs.Common.{ℕ, ◌<◌, ◌≡◌, ◌≤◌, Option, Some, arith, false}
+use Rattle.scope_rows.specs.{History, Legal, Limits, Opening, before, closed, innermost, opening}
+use Rattle.scope_rows.proofs.Words.{HasUnclosed, innermost_unclosed, opened_after, opened_first, opening_later, opening_number, unclosed_around, unclosed_before, unclosed_innermost}
 
 -- o is the greatest unclosed scope of the actor below t, or none if there is none
 pub record IsGreatestBelow (h : History) (a t : ℕ) (o : Option ℕ) : Type 0 where

@@ -1,43 +1,12 @@
 -- Rows that agree with a history give what each call wants, for an event that was accepted.
-use Rattle.std.proofs.Common.{◌≡◌, ℕ, zero, suc, ◌+◌, ◌≤◌, ◌&&◌, Bool, true, false, cond, Option, Some, None, IfSome, count_by, refl, ap, sym, subst, ◌∙◌, arith}
-use Rattle.std.proofs.lemmas.Bool.{eq-eqb, ltb-true}
-use Rattle.std.specs.Option.{option_map_or}
-use Rattle.std.specs.List.{range_with_len}
-use Rattle.scope_rules.specs.declared.types.capacity.Limits.{Limits}
-use Rattle.scope_rules.specs.declared.types.capacity.TheConstants.{TASK_LIMIT}
-use Rattle.scope_rules.specs.declared.types.answers.Stage.{Stage}
-use Rattle.scope_rules.specs.declared.types.answers.Stage.TheVariants.{Never, Waiting, Running, Finished}
-use Rattle.scope_rules.specs.declared.types.events.Event.{Event}
-use Rattle.scope_rules.specs.declared.types.events.Event.TheVariants.{Open, Fork, Reject, Start, Finish, BeginClose, EndClose}
-use Rattle.scope_rules.specs.declared.types.records.Forking.{Forking}
-use Rattle.scope_rules.specs.History.{History, before, forked_count, task_numbers, forking, is_fork, HasSmallNumbers}
-use Rattle.scope_rules.specs.Scopes.{innermost}
-use Rattle.scope_rules.specs.Tasks.{stage, is_at, is_stage, counts}
-use Rattle.scope_rules.specs.Legal.{Legal, Accepts}
-use Rattle.scope_rules.proofs.Completions.{count_by-cons}
-use Rattle.scope_rules.proofs.Forkings.{forked_after}
-use Rattle.scope_rules.proofs.Growing.{opening_number}
-use Rattle.scope_rules.proofs.Heights.{range_any}
-use Rattle.scope_rules.proofs.Innermosts.{opened_after, innermost_unclosed}
-use Rattle.scope_rules.proofs.Nesting.{forked_opened}
-use Rattle.scope_rules.proofs.OneEventMore.{along}
-use Rattle.scope_rules.proofs.Owing.{count_push}
-use Rattle.scope_rules.proofs.PassedRows.{open_passed, fork_passed, start_passed, reject_passed, finish_passed, begin_close_passed, end_close_passed}
-use Rattle.scope_rules.proofs.Pushing.{open_number, fork_number}
-use Rattle.scope_rules.proofs.Stages.{waiting_forked, running_forked}
-use Rattle.scope_rules.proofs.Tallies.{any_counted}
-use Rattle.scope_rules.proofs.TallySteps.{tally}
-use Rattle.scope_rows.specs.declared.records.ScopeRow.{ScopeRow}
-use Rattle.scope_rows.specs.Table.{RowTable, HasScope, scope_of, innermost_of}
-use Rattle.scope_rows.specs.Agreement.{AreRowsOf}
-use Rattle.scope_rows.specs.Steps.{no_counts}
-use Rattle.scope_rows.specs.Wants.{HasScopeNumbers, HasTaskNumbers, counts_of, HasCountRoom, CanOpen, CanFork, CanBeTaken, CanFinish, AreLinked, CanBeginClose, CanEndClose}
-use Rattle.scope_rows.proofs.Actors.{actor_has}
-use Rattle.scope_rows.proofs.CountMoves.{unit_is}
-use Rattle.scope_rows.proofs.Frames.{tallies_of}
-use Rattle.scope_rows.proofs.Places.{scope_there, scope_row_is, opened_has, forked_has, scope_of_is}
-use Rattle.scope_rows.proofs.Reading.{innermost_says}
-use Rattle.scope_rows.proofs.TaskLaws.{waiting_is, running_is}
+use Rattle.std.proofs.Common.{ℕ, ◌&&◌, ◌+◌, ◌∙◌, ◌≡◌, ◌≤◌, Bool, IfSome, None, Option, Some, ap, arith, cond, count_by, false, refl, subst, suc, sym, true, zero}
+use Rattle.scope_rows.specs.{Accepts, AreLinked, AreRowsOf, BeginClose, CanBeTaken, CanBeginClose, CanEndClose, CanFinish, CanFork, CanOpen, EndClose, Event, Finish, Finished, Fork, Forking, HasCountRoom, HasScope}
+use Rattle.scope_rows.specs.{HasScopeNumbers, HasSmallNumbers, HasTaskNumbers, History, Legal, Limits, Never, Open, Reject, RowTable, Running, ScopeRow, Stage, Start, TASK_LIMIT, Waiting, before, counts, counts_of, forked_count}
+use Rattle.scope_rows.specs.{forking, innermost, innermost_of, is_at, is_fork, is_stage, no_counts, option_map_or, range_with_len, scope_of, stage, task_numbers}
+use Rattle.scope_rows.proofs.Words.{along, any_counted, begin_close_passed, count_by-cons, count_push, end_close_passed, eq-eqb, finish_passed, fork_number, fork_passed, forked_after, forked_opened, innermost_unclosed, ltb-true}
+use Rattle.scope_rows.proofs.Words.{open_number, open_passed, opened_after, opening_number, range_any, reject_passed, running_forked, start_passed, tally, waiting_forked}
+use Rattle.scope_rows.proofs.{Actors.actor_has, CountMoves.unit_is, Frames.tallies_of, Places.forked_has, Places.opened_has, Places.scope_of_is, Places.scope_row_is, Places.scope_there, Reading.innermost_says, TaskLaws.running_is}
+use Rattle.scope_rows.proofs.{TaskLaws.waiting_is}
 
 -- ---- numbers
 

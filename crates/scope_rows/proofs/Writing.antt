@@ -1,14 +1,8 @@
 -- What is written into the rows is what a step makes of them.
-use Rattle.std.proofs.Common.{◌≡◌, ℕ, ◌+◌, ◌-◌, ◌==◌, Bool, false, cond, Option, Some, unwrap_or, [], ◌∷◌, ◌++◌, length, get_or, ap, sym, subst, ◌∙◌}
-use Rattle.std.specs.Option.{option_map_or, option_and_then}
-use Rattle.scope_rules.specs.declared.types.answers.Counts.{Counts}
-use Rattle.scope_rules.specs.declared.types.records.Opening.{Opening}
-use Rattle.scope_rows.specs.declared.records.ScopeRow.{ScopeRow}
-use Rattle.scope_rows.specs.declared.records.TaskRow.{TaskRow}
-use Rattle.scope_rows.specs.Table.{RowTable, HasScope, HasTask, place_of, scope_of, innermost_of}
-use Rattle.scope_rows.specs.Steps.{altered, with_scope, recount, moved, opened, new_scope_row, below_of, forked, count_fork, new_task_row, with_inner, with_innermost}
-use Rattle.scope_rows.proofs.Altering.{altered_read}
-use Rattle.scope_rows.proofs.Places.{number_read}
+use Rattle.std.proofs.Common.{[], ℕ, ◌++◌, ◌+◌, ◌-◌, ◌==◌, ◌∙◌, ◌∷◌, ◌≡◌, Bool, Option, Some, ap, cond, false, get_or, length, subst, sym, unwrap_or}
+use Rattle.scope_rows.specs.{Counts, HasScope, HasTask, Opening, RowTable, ScopeRow, TaskRow, altered, below_of, count_fork, forked, innermost_of, moved, new_scope_row, new_task_row, opened, option_and_then, option_map_or}
+use Rattle.scope_rows.specs.{place_of, recount, scope_of, with_inner, with_innermost, with_scope}
+use Rattle.scope_rows.proofs.{Altering.altered_read, Places.number_read}
 
 -- a row of a scope, changed
 pub scope_written : (f : ScopeRow → ScopeRow) (v t : RowTable) (s : ℕ) (row : ScopeRow) → v ≡ t → row ≡ get_or v.scopes (place_of v.scopes_before s) row → record v { scopes = altered (λ old. f row) v.scopes (place_of v.scopes_before s) } ≡ with_scope t s f

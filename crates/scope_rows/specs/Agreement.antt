@@ -1,14 +1,6 @@
 -- When rows agree with a history: each says what the history says of its scope or task.
-use Rattle.std.specs.Prelude.{◌≡◌, ℕ, ◌+◌, Some, length, slice_get}
-use Rattle.scope_rules.specs.declared.types.records.Forking.{Forking}
-use Rattle.scope_rules.specs.History.{History, before, opened_count, forked_count, opening, forking}
-use Rattle.scope_rules.specs.Scopes.{parent, innermost, closing, closed}
-use Rattle.scope_rules.specs.Outcomes.{joining}
-use Rattle.scope_rules.specs.Verdicts.{violated}
-use Rattle.scope_rules.specs.Tasks.{stage, state, counts}
-use Rattle.scope_rules.specs.Bindings.{stack}
-use Rattle.scope_rows.specs.declared.records.ScopeRow.{ScopeRow}
-use Rattle.scope_rows.specs.declared.records.TaskRow.{TaskRow}
+use Rattle.std.specs.Prelude.{ℕ, ◌+◌, ◌≡◌, Some, length, slice_get}
+use Rattle.scope_rows.specs.Words.{Forking, History, ScopeRow, TaskRow, before, closed, closing, counts, forked_count, forking, innermost, joining, opened_count, opening, parent, stack, stage, state, violated}
 use Rattle.scope_rows.specs.Table.{RowTable, inner_of}
 
 -- the row says what the history says of scope s

@@ -1,7 +1,6 @@
 -- What is kept of own deadlines: one of each scope since the base, and how a call changes that.
-use Rattle.std.specs.Prelude.{ℕ, ◌-◌, Option, None, List, [], ◌∷◌, ◌++◌, slice_index_or}
-use Rattle.scope_rows.specs.Table.{IsNumbered, place_of}
-use Rattle.scope_rows.specs.Steps.{altered}
+use Rattle.std.specs.Prelude.{[], ℕ, ◌++◌, ◌-◌, ◌∷◌, List, None, Option, slice_index_or}
+use Rattle.scope_rows.specs.{Steps.altered, Table.IsNumbered, Table.place_of}
 
 -- the deadlines of the scopes, in order of their numbers, of which `before` were given before
 pub record DeadlineTable : Type 0 where

@@ -1,9 +1,6 @@
 -- When what is kept of own deadlines is a history's.
-use Rattle.std.specs.Prelude.{◌≡◌, ℕ, ◌+◌, Bool, true, false, Option, Some, length, slice_get}
-use Rattle.scope_rules.specs.declared.types.events.Event.{Event}
-use Rattle.scope_rules.specs.declared.types.events.Event.TheVariants.{Open, Move}
-use Rattle.scope_rules.specs.History.{History, opened_count}
-use Rattle.scope_rules.specs.Cancels.{deadline}
+use Rattle.std.specs.Prelude.{ℕ, ◌+◌, ◌≡◌, Bool, Option, Some, false, length, slice_get, true}
+use Rattle.scope_rows.specs.Words.{Event, History, Move, Open, deadline, opened_count}
 use Rattle.scope_rows.specs.DeadlineTable.{DeadlineTable}
 
 -- the table has the own deadline of each scope that was opened since the base

@@ -1,7 +1,6 @@
 -- A list with an entry for each number after those that were given before, and what each call makes of it.
-use Rattle.std.specs.Prelude.{ℕ, ◌+◌, ◌-◌, List, [], ◌∷◌, ◌++◌, length}
-use Rattle.scope_rows.specs.Table.{IsNumbered, place_of}
-use Rattle.scope_rows.specs.Steps.{altered}
+use Rattle.std.specs.Prelude.{[], ℕ, ◌++◌, ◌+◌, ◌-◌, ◌∷◌, List, length}
+use Rattle.scope_rows.specs.{Steps.altered, Table.IsNumbered, Table.place_of}
 
 -- the entries in order of their numbers, of which `before` were given before
 pub record Entries (R : Type 0) : Type 0 where

@@ -1,17 +1,7 @@
 -- What each call makes of the rows.
-use Rattle.std.specs.Prelude.{ℕ, zero, suc, ◌+◌, ◌-◌, ◌==◌, ◌||◌, Bool, true, false, not, Option, Some, None, unwrap_or, List, [], ◌∷◌, ◌++◌, length, if◌then◌else◌}
-use Rattle.std.specs.Option.{option_and_then, option_map_or}
-use Rattle.scope_rules.specs.declared.types.answers.Counts.{Counts}
-use Rattle.scope_rules.specs.declared.types.answers.Stage.{Stage}
-use Rattle.scope_rules.specs.declared.types.answers.Stage.TheVariants.{Never, Waiting, Running, Finished}
-use Rattle.scope_rules.specs.declared.types.answers.State.{State}
-use Rattle.scope_rules.specs.declared.types.answers.State.TheVariants.{Unavailable}
-use Rattle.scope_rules.specs.declared.types.records.Opening.{Opening}
-use Rattle.scope_rules.specs.Ends.{EndValue}
-use Rattle.scope_rules.specs.Tasks.{state_by_end}
-use Rattle.scope_rows.specs.declared.records.ScopeRow.{ScopeRow}
-use Rattle.scope_rows.specs.declared.records.TaskRow.{TaskRow}
-use Rattle.scope_rows.specs.Table.{RowTable, place_of, row_of, innermost_of, scope_of}
+use Rattle.std.specs.Prelude.{[], ℕ, ◌++◌, ◌+◌, ◌-◌, ◌==◌, ◌||◌, ◌∷◌, Bool, List, None, Option, Some, false, if◌then◌else◌, length, not, suc, true, unwrap_or, zero}
+use Rattle.scope_rows.specs.Words.{Counts, EndValue, Finished, Never, Opening, Running, ScopeRow, Stage, State, TaskRow, Unavailable, Waiting, option_and_then, option_map_or, state_by_end}
+use Rattle.scope_rows.specs.Table.{RowTable, innermost_of, place_of, row_of, scope_of}
 
 -- the rows with the i-th, from 0, changed
 abbrev pub altered : {R : Type 0} → (R → R) → List R → ℕ → List R

@@ -1,9 +1,7 @@
 -- What rows hold: a row for each scope and each task since the base, in order of their numbers, which go
 -- on from the base's.
-use Rattle.std.specs.Prelude.{ℕ, ◌+◌, ◌-◌, ◌<◌, ◌≤◌, ◌==◌, ◌⊎◌, ◌≡◌, nat_lt, Option, Some, None, List, [], length, slice_get, if◌then◌else◌}
-use Rattle.std.specs.Option.{option_and_then, option_map_or}
-use Rattle.scope_rows.specs.declared.records.ScopeRow.{ScopeRow}
-use Rattle.scope_rows.specs.declared.records.TaskRow.{TaskRow}
+use Rattle.std.specs.Prelude.{[], ℕ, ◌+◌, ◌-◌, ◌<◌, ◌==◌, ◌≡◌, ◌≤◌, ◌⊎◌, List, None, Option, Some, if◌then◌else◌, length, nat_lt, slice_get}
+use Rattle.scope_rows.specs.Words.{ScopeRow, TaskRow, option_and_then, option_map_or}
 
 pub record RowTable : Type 0 where
   -- how many scopes and tasks were numbered before

@@ -1,10 +1,7 @@
 -- What the calls want of the rows. Rows that agree with a history give it for each accepted event.
-use Rattle.std.specs.Prelude.{◌≡◌, ℕ, ◌+◌, ◌<◌, ◌≤◌, ◌^◌, Some, IfSome, List, slice_get, length}
-use Rattle.std.specs.Option.{option_map_or}
-use Rattle.scope_rules.specs.declared.types.answers.Counts.{Counts}
-use Rattle.scope_rows.specs.declared.records.ScopeRow.{ScopeRow}
-use Rattle.scope_rows.specs.Table.{RowTable, HasScope, HasTask, HasActor, scope_row, scope_of, innermost_of}
-use Rattle.scope_rows.specs.Steps.{no_counts}
+use Rattle.std.specs.Prelude.{ℕ, ◌+◌, ◌<◌, ◌^◌, ◌≡◌, ◌≤◌, IfSome, List, Some, length, slice_get}
+use Rattle.scope_rows.specs.Words.{Counts, ScopeRow, option_map_or}
+use Rattle.scope_rows.specs.{Steps.no_counts, Table.HasActor, Table.HasScope, Table.HasTask, Table.RowTable, Table.innermost_of, Table.scope_of, Table.scope_row}
 
 -- the numbers of the scopes fit 32 bits
 abbrev pub HasScopeNumbers : RowTable → Type 0

@@ -1,17 +1,8 @@
 //! The own deadline of each scope: that of its last move, or else of its opening, whether it counts still
 //! or not.
 
-ghost use Rattle.std.specs.Prelude.{◌≡◌, ℕ, ◌≤◌, [], OnOk, OnErr};
-ghost use Rattle.scope_rules.specs.Origin.{Origin};
-ghost use Rattle.scope_rules.specs.declared.types.capacity.Limits.{Limits};
-ghost use Rattle.scope_rules.specs.declared.types.events.Event.TheVariants.{Open, Move};
-ghost use Rattle.scope_rules.specs.declared.types.events.Options.{Options};
-ghost use Rattle.scope_rules.specs.declared.types.joiners.Policy.{Policy};
-ghost use Rattle.scope_rules.specs.History.{History, followed};
-ghost use Rattle.scope_rules.specs.Cancels.{deadline};
-ghost use Rattle.scope_rules.specs.Legal.{Legal};
-ghost use Rattle.scope_rows.specs.DeadlineTable.{HasDeadline, deadline_in, no_deadlines, with_open, with_deadline};
-ghost use Rattle.scope_rows.specs.DeadlinesOf.{AreDeadlinesOf};
+ghost use Rattle.std.specs.Prelude.{[], ℕ, ◌≡◌, ◌≤◌, OnErr, OnOk};
+ghost use Rattle.scope_rows.specs.{AreDeadlinesOf, HasDeadline, History, Legal, Limits, Move, Open, Options, Origin, Policy, deadline, deadline_in, followed, no_deadlines, with_deadline, with_open};
 
 use crate::numbered::Numbered;
 use scope_rules::ScopeId;

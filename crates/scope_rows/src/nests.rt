@@ -5,12 +5,7 @@
 //! are levels, and a walk over all of them takes constant time.
 
 ghost use Rattle.std.specs.Prelude.{◌≡◌};
-ghost use Rattle.scope_rules.specs.declared.types.capacity.Limits.{Limits};
-ghost use Rattle.scope_rules.specs.History.{History};
-ghost use Rattle.scope_rules.specs.Legal.{Legal};
-ghost use Rattle.scope_rules.specs.Nests.{next_unclosed, outermost, inner};
-ghost use Rattle.scope_rows.specs.Agreement.{AreRowsOf};
-ghost use Rattle.scope_rows.specs.Steps.{below_of};
+ghost use Rattle.scope_rows.specs.{AreRowsOf, History, Legal, Limits, below_of, inner, next_unclosed, outermost};
 
 use crate::rows::Rows;
 use scope_rules::types::capacity::LEVEL_LIMIT;

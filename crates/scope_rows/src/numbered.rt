@@ -1,9 +1,7 @@
 //! Lists that go by a number, as that of a scope or a task.
 
-ghost use Rattle.std.specs.Prelude.{◌≡◌, ℕ, ◌+◌, ◌≤◌, ◌<◌, OnOk, OnErr, length, option_map, slice_index_or};
-ghost use Rattle.std.specs.Borrow.{sem};
-ghost use Rattle.scope_rows.specs.Table.{place_of, row_of};
-ghost use Rattle.scope_rows.specs.Numbered.{HasEntry, no_entries, with_next, cleared};
+ghost use Rattle.std.specs.Prelude.{ℕ, ◌+◌, ◌<◌, ◌≡◌, ◌≤◌, OnErr, OnOk, length, option_map, slice_index_or};
+ghost use Rattle.scope_rows.specs.{HasEntry, cleared, no_entries, place_of, row_of, sem, with_next};
 
 use std::alloc::{AllocError, Global};
 use std::marker::Model;

@@ -1,15 +1,8 @@
 //! The rows, and what queries read of them.
 
-ghost use Rattle.std.specs.Prelude.{◌≡◌, ◌≤◌, ◌+◌, MatchOption, None, [], OnOk, OnErr, length, slice_get, Some, option_map};
-ghost use Rattle.scope_rules.specs.Origin.{Origin};
-ghost use Rattle.scope_rules.specs.History.{History, opened_count, forked_count, scopes, tasks, opening, forking};
-ghost use Rattle.scope_rules.specs.Scopes.{innermost};
-ghost use Rattle.scope_rules.specs.Legal.{Legal};
-ghost use Rattle.scope_rules.specs.declared.types.capacity.Limits.{Limits};
-ghost use Rattle.scope_rows.specs.Agreement.{AreRowsOf, IsScopeRow, IsTaskRow};
-ghost use Rattle.scope_rows.specs.Table.{RowTable, HasActor, scope_row, task_row, inner_of, innermost_of, empty_table};
-ghost use Rattle.scope_rows.specs.Steps.{restarted, with_innermost};
-ghost use Rattle.scope_rows.specs.Wants.{HasScopeNumbers, HasTaskNumbers};
+ghost use Rattle.std.specs.Prelude.{[], ◌+◌, ◌≡◌, ◌≤◌, MatchOption, None, OnErr, OnOk, Some, length, option_map, slice_get};
+ghost use Rattle.scope_rows.specs.{AreRowsOf, HasActor, HasScopeNumbers, HasTaskNumbers, History, IsScopeRow, IsTaskRow, Legal, Limits, Origin, RowTable, empty_table, forked_count, forking, inner_of, innermost, innermost_of};
+ghost use Rattle.scope_rows.specs.{opened_count, opening, restarted, scope_row, scopes, task_row, tasks, with_innermost};
 
 use crate::numbered::Numbered;
 use crate::records::{ScopeRow, TaskRow};

@@ -1,22 +1,10 @@
 -- What follows from a passed row of checks.
-use Rattle.std.proofs.Common.{◌≡◌, ℕ, zero, suc, ◌<◌, ◌≤◌, ◌==◌, ◌||◌, Bool, true, false, not, cond, Option, Some, None, Ok, Err, List, [], ◌∷◌, length, take, slice_get, refl, ap, sym, ◌∙◌, arith, add-one}
-use Rattle.std.proofs.lemmas.List.{take_all}
-use Rattle.std.specs.Option.{option_map_or}
-use Rattle.std.specs.List.{list_any}
-use Rattle.scope_rules.specs.declared.types.events.Event.{Event}
-use Rattle.scope_rules.specs.declared.types.events.Event.TheVariants.{Reject, Start, Finish, Join, BeginClose, EndClose}
-use Rattle.scope_rules.specs.declared.types.answers.Stage.TheVariants.{Never, Waiting, Running, Finished}
-use Rattle.scope_rules.specs.declared.types.refusals.Refusal.{Refusal}
-use Rattle.scope_rules.specs.declared.types.records.Forking.{Forking}
-use Rattle.scope_rules.specs.Search.{some_below}
-use Rattle.scope_rules.specs.History.{History, forking}
-use Rattle.scope_rules.specs.Scopes.{joins, joined, ends, closed, closing, closing_at, covers}
-use Rattle.scope_rules.specs.Tasks.{rejects, rejected, starts, started, finishes, finished, stage, stage_of, is_waiting, is_running}
-use Rattle.scope_rules.specs.Cancels.{cancelled_before}
-use Rattle.scope_rules.specs.Checks.{Checked, checks, then_check, refuse_if}
-use Rattle.scope_rules.specs.Owed.{lacks, marks, join_mark, begin_mark, end_mark, take_mark, finish_mark}
-use Rattle.scope_rules.proofs.Prefixes.{take_at}
-use Rattle.scope_rules.proofs.Numbers.{list_any-push}
+use Rattle.std.proofs.Common.{[], ℕ, ◌<◌, ◌==◌, ◌||◌, ◌∙◌, ◌∷◌, ◌≡◌, ◌≤◌, Bool, Err, List, None, Ok, Option, Some, add-one, ap, arith, cond, false, length, not, refl, slice_get, suc, sym, take, true, zero}
+use Rattle.scope_rules.specs.{BeginClose, Checked, EndClose, Event, Finish, Finished, Forking, History.History, Join, Refusal, Reject, Running, Scopes.joined, Start, Waiting, begin_mark, cancelled_before, checks, closed, closing}
+use Rattle.scope_rules.specs.{closing_at, covers, declared.types.answers.Stage.TheVariants.Never, end_mark, ends, finish_mark, finished, finishes, forking, is_running, is_waiting, join_mark, joins, lacks, list_any, marks}
+use Rattle.scope_rules.specs.{option_map_or, refuse_if, rejected, rejects, some_below, stage, stage_of, started, starts, take_mark, then_check}
+use Rattle.scope_rules.proofs.Words.{take_all}
+use Rattle.scope_rules.proofs.{Numbers.list_any-push, Prefixes.take_at}
 
 then_first : (a b : Checked) → then_check a b ≡ Ok tt → a ≡ Ok tt
 unfolding then_check

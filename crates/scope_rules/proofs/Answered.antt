@@ -1,15 +1,7 @@
 -- What a join answered stays.
-use Rattle.std.proofs.Common.{◌≡◌, ℕ, ◌+◌, ◌<◌, cond, true, Option, Some, None, option_map, [], ◌∷◌, ◌++◌, length, slice_get, refl, ap, sym, ◌∙◌, arith, length-append}
-use Rattle.scope_rules.specs.declared.types.events.Event.{Event}
-use Rattle.scope_rules.specs.declared.types.outcomes.Outcome.{Outcome}
-use Rattle.scope_rules.specs.History.{History, before, followed, opening}
-use Rattle.scope_rules.specs.Scopes.{joins}
-use Rattle.scope_rules.specs.Outcomes.{joining_at, joining, outcome_of, outcome}
-use Rattle.scope_rules.proofs.Searching.{earliest_kept, earliest_where, earliest_same}
-use Rattle.scope_rules.proofs.Openings.{if_some, and_then_some}
-use Rattle.scope_rules.proofs.Pushing.{before_push}
-use Rattle.scope_rules.proofs.Growing.{opening_stays}
-use Rattle.scope_rules.proofs.Prefixes.{get_push}
+use Rattle.std.proofs.Common.{[], ℕ, ◌++◌, ◌+◌, ◌<◌, ◌∙◌, ◌∷◌, ◌≡◌, None, Option, Some, ap, arith, cond, length, length-append, option_map, refl, slice_get, sym, true}
+use Rattle.scope_rules.specs.{Event, History.History, Outcome, before, followed, joining, joining_at, joins, opening, outcome, outcome_of}
+use Rattle.scope_rules.proofs.{Growing.opening_stays, Openings.and_then_some, Openings.if_some, Prefixes.get_push, Pushing.before_push, Searching.earliest_kept, Searching.earliest_same, Searching.earliest_where}
 
 -- a join stands at the place of the join
 pub joining_entry : (h : History) (s i : ℕ) → joining h s ≡ Some i → (e : Event) × (slice_get h.events i ≡ Some e) × (joins s e ≡ true) × (i < length h.events)

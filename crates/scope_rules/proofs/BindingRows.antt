@@ -1,22 +1,10 @@
 -- What a passed row of checks says of actors, forks and bindings. All that these laws unpack of a row
 -- is here.
-use Rattle.std.proofs.Common.{◌≡◌, ℕ, ◌<◌, ◌==◌, ◌⊎◌, Bool, true, false, cond, Option, Some, None, Ok, is_some, length, [], ◌∷◌, not, refl, ap, sym, ◌∙◌, inl, inr, arith}
-use Rattle.std.proofs.lemmas.Bool.{eqb-true, eqb-false}
-use Rattle.std.specs.Option.{option_map_or}
-use Rattle.scope_rules.specs.declared.types.capacity.Limits.{Limits}
-use Rattle.scope_rules.specs.declared.types.events.Event.TheVariants.{Open, Fork, Unbind}
-use Rattle.scope_rules.specs.declared.types.records.Opening.{Opening}
-use Rattle.scope_rules.specs.declared.types.records.Forking.{Forking}
-use Rattle.scope_rules.specs.declared.types.refusals.Refusal.TheVariants.{WrongStage}
-use Rattle.scope_rules.specs.History.{History, opening, forking}
-use Rattle.scope_rules.specs.Tasks.{stage, is_running}
-use Rattle.scope_rules.specs.Bindings.{stack, bound_as_opened, holds_last}
-use Rattle.scope_rules.specs.Checks.{checks, refuse_if, task_check, actor_check, owns, known_actor, known_scope, known_task}
-use Rattle.scope_rules.specs.Table.{row_check}
-use Rattle.scope_rules.specs.Legal.{Accepts}
-use Rattle.scope_rules.proofs.Accepted.{checks_at, not_refused, not_not}
-use Rattle.scope_rules.proofs.Owing.{if_refused}
-use Rattle.scope_rules.proofs.Nesting.{IsOpened, opened_some}
+use Rattle.std.proofs.Common.{[], ℕ, ◌<◌, ◌==◌, ◌∙◌, ◌∷◌, ◌≡◌, ◌⊎◌, Bool, None, Ok, Option, Some, ap, arith, cond, false, inl, inr, is_some, length, not, refl, sym, true}
+use Rattle.scope_rules.specs.{Accepts, Fork, Forking, History.History, Limits, Opening, Unbind, WrongStage, actor_check, bound_as_opened, checks, declared.types.events.Event.TheVariants.Open, forking, holds_last, is_running}
+use Rattle.scope_rules.specs.{known_actor, known_scope, known_task, opening, option_map_or, owns, refuse_if, row_check, stack, stage, task_check}
+use Rattle.scope_rules.proofs.Words.{eqb-false, eqb-true}
+use Rattle.scope_rules.proofs.{Accepted.checks_at, Accepted.not_not, Accepted.not_refused, Nesting.IsOpened, Nesting.opened_some, Owing.if_refused}
 
 -- a task with this number was forked
 pub record IsForked (h : History) (k : ℕ) : Type 0 where

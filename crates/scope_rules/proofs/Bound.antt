@@ -1,25 +1,10 @@
 -- What the checks of bindings ask, by heights of stacks alone: while a scope that an actor opened isn't
 -- closed, the pairs that the actor had then still stand.
-use Rattle.std.proofs.Common.{◌≡◌, ℕ, zero, suc, ◌+◌, ◌-◌, ◌<◌, ◌≤◌, ◌==◌, Bool, true, false, Option, Some, None, nat_le, List, length, take, refl, ap, sym, ◌∙◌, arith, zero-add, inl, inr, ◌⊎◌}
-use Rattle.std.proofs.lemmas.Bool.{cases_lt, eq-eqb, eqb-true, le-leb, leb-true}
-use Rattle.std.proofs.lemmas.List.{length-take, take_all}
-use Rattle.std.specs.Option.{option_map_or}
-use Rattle.scope_rules.specs.declared.types.capacity.Limits.{Limits}
-use Rattle.scope_rules.specs.declared.types.events.Binding.{Binding}
-use Rattle.scope_rules.specs.declared.types.records.Opening.{Opening}
-use Rattle.scope_rules.specs.History.{History, before, opening}
-use Rattle.scope_rules.specs.Scopes.{closed, innermost}
-use Rattle.scope_rules.specs.Bindings.{stack, stacked, bound_as_opened, holds_last}
-use Rattle.scope_rules.specs.Legal.{Legal}
-use Rattle.scope_rules.proofs.Accepted.{entry_at}
-use Rattle.scope_rules.proofs.Earlier.{opening_within}
-use Rattle.scope_rules.proofs.Heights.{HoldsLast, found_by_test, test_finds, stack_above}
-use Rattle.scope_rules.proofs.Inherited.{bound_as_opened_own}
-use Rattle.scope_rules.proofs.Innermosts.{innermost_none, innermost_unclosed, unclosed_innermost}
-use Rattle.scope_rules.proofs.InnermostEnds.{opened_first}
-use Rattle.scope_rules.proofs.Pushing.{before_all}
-use Rattle.scope_rules.proofs.StackEvents.{stacked_keeps}
-use Rattle.scope_rules.proofs.Stacks.{stack_more, stack_whole}
+use Rattle.std.proofs.Common.{ℕ, ◌+◌, ◌-◌, ◌<◌, ◌==◌, ◌∙◌, ◌≡◌, ◌≤◌, ◌⊎◌, Bool, List, None, Option, Some, ap, arith, false, inl, inr, length, nat_le, refl, suc, sym, take, true, zero, zero-add}
+use Rattle.scope_rules.specs.{Binding, History.History, Legal.Legal, Limits, Opening, before, bound_as_opened, closed, holds_last, innermost, opening, option_map_or, stack, stacked}
+use Rattle.scope_rules.proofs.Words.{cases_lt, eq-eqb, eqb-true, le-leb, leb-true, length-take, take_all}
+use Rattle.scope_rules.proofs.{Accepted.entry_at, Earlier.opening_within, Heights.HoldsLast, Heights.found_by_test, Heights.stack_above, Heights.test_finds, Inherited.bound_as_opened_own, InnermostEnds.opened_first}
+use Rattle.scope_rules.proofs.{Innermosts.innermost_none, Innermosts.innermost_unclosed, Innermosts.unclosed_innermost, Pushing.before_all, StackEvents.stacked_keeps, Stacks.stack_more, Stacks.stack_whole}
 
 -- the actor's stack at the opening
 abbrev pub stack_then : History → Opening → List Binding

@@ -1,9 +1,6 @@
 -- The laws of chains whose outer scopes have smaller numbers: what stands at a scope, by what stands at the scope outside it.
-use Rattle.std.proofs.Common.{◌≡◌, ℕ, zero, suc, ◌<◌, ◌≤◌, Option, Some, None, ◌∷◌, length, refl, ap, sym, ◌∙◌, arith}
-use Rattle.std.specs.Option.{option_and_then}
-use Rattle.scope_rules.specs.declared.types.records.FirstCancel.{FirstCancel}
-use Rattle.scope_rules.specs.Chains.{onward, outwards, chain_by, nearer, earliest_on, first_cancel_by, sooner, least_on}
-use Rattle.scope_rules.specs.Chains.{IsInward}
+use Rattle.std.proofs.Common.{ℕ, ◌<◌, ◌∙◌, ◌∷◌, ◌≡◌, ◌≤◌, None, Option, Some, ap, arith, length, refl, suc, sym, zero}
+use Rattle.scope_rules.specs.{FirstCancel, IsInward, chain_by, earliest_on, first_cancel_by, least_on, nearer, onward, option_and_then, outwards, sooner}
 
 below : (P : ℕ → Type 0) → ((t : ℕ) → ((p : ℕ) → p < t → P p) → P t) → (n t : ℕ) → t < n → P t
 below P step zero t h = absurd (omega arith)

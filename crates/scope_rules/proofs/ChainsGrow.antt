@@ -1,20 +1,9 @@
 -- In a legal history what lies around a scope stays, and its first cancel stays, or is new.
-use Rattle.std.proofs.Common.{◌≡◌, ℕ, ◌<◌, ◌≤◌, Bool, false, Option, Some, None, option_map, is_some, [], ◌∷◌, length, nat_lt, max, refl, ap, sym, ◌∙◌, arith, length-append}
-use Rattle.std.proofs.lemmas.Bool.{le-ltb, lt-ltb}
-use Rattle.std.specs.Option.{option_and_then, option_map_or}
-use Rattle.scope_rules.specs.declared.types.capacity.Limits.{Limits}
-use Rattle.scope_rules.specs.declared.types.events.Event.{Event}
-use Rattle.scope_rules.specs.declared.types.records.Opening.{Opening}
-use Rattle.scope_rules.specs.declared.types.records.FirstCancel.{FirstCancel}
-use Rattle.scope_rules.specs.History.{History, followed, opening}
-use Rattle.scope_rules.specs.Scopes.{surrounding, around, parent}
-use Rattle.scope_rules.specs.Cancels.{first_cancel, is_cancelled, cancelled_at, cancelled_before}
-use Rattle.scope_rules.specs.Legal.{Legal}
-use Rattle.scope_rules.proofs.Pushing.{before_push}
-use Rattle.scope_rules.proofs.Growing.{opening_stays}
-use Rattle.scope_rules.proofs.Nesting.{IsOpened}
-use Rattle.scope_rules.proofs.Staying.{cancel_stays, cancel_grows, cancel_within_history}
-use Rattle.scope_rules.proofs.Earlier.{opening_within}
+use Rattle.std.proofs.Common.{[], ℕ, ◌<◌, ◌∙◌, ◌∷◌, ◌≡◌, ◌≤◌, Bool, None, Option, Some, ap, arith, false, is_some, length, length-append, max, nat_lt, option_map, refl, sym}
+use Rattle.scope_rules.specs.{Event, FirstCancel, History.History, Legal.Legal, Limits, Opening, around, cancelled_at, cancelled_before, first_cancel, followed, is_cancelled, opening, option_and_then, option_map_or, parent}
+use Rattle.scope_rules.specs.{surrounding}
+use Rattle.scope_rules.proofs.Words.{le-ltb, lt-ltb}
+use Rattle.scope_rules.proofs.{Earlier.opening_within, Growing.opening_stays, Nesting.IsOpened, Pushing.before_push, Staying.cancel_grows, Staying.cancel_stays, Staying.cancel_within_history}
 
 around_stays : (h : History) (e : Event) (s : ℕ) (o : Opening) → opening h s ≡ Some o → around (followed h e) o ≡ around h o
 around_stays h e s o is = ap (λ (g : History). surrounding g o.actor) (before_push h e o.place (omega (arith, opening_within h s o is)))

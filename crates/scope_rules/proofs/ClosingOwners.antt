@@ -1,21 +1,10 @@
 -- Who owns an unclosed scope acts, and what is closed is settled.
-use Rattle.std.proofs.Common.{◌≡◌, ℕ, true, false, Some, [], length, refl, sym, subst, inl, inr}
-use Rattle.std.proofs.lemmas.Bool.{false_from_ne_true, both_ways}
-use Rattle.scope_rules.specs.declared.types.capacity.Limits.{Limits}
-use Rattle.scope_rules.specs.declared.types.events.Event.{Event}
-use Rattle.scope_rules.specs.declared.types.records.Opening.{Opening}
-use Rattle.scope_rules.specs.declared.types.records.Forking.{Forking}
-use Rattle.scope_rules.specs.Origin.{Origin}
-use Rattle.scope_rules.specs.Search.{earliest}
-use Rattle.scope_rules.specs.History.{History, followed, opening, forking}
-use Rattle.scope_rules.specs.Scopes.{closed, closing, ends}
-use Rattle.scope_rules.specs.Tasks.{stage, is_settled, settled, finishes}
-use Rattle.scope_rules.specs.Legal.{Accepts, Legal}
-use Rattle.scope_rules.proofs.PassedRows.{IsActor, opener_passed, forker_passed, ender_passed, finisher_passed}
-use Rattle.scope_rules.proofs.OneEventMore.{along, opening_split, forking_split, closed_split, unclosed_earlier, closing_stays}
-use Rattle.scope_rules.proofs.Innermosts.{innermost_none}
-use Rattle.scope_rules.proofs.Stages.{running_stays, settled_stays}
-use Rattle.scope_rules.proofs.SettledTasks.{settled_task, settled_where_all}
+use Rattle.std.proofs.Common.{[], ℕ, ◌≡◌, Some, false, inl, inr, length, refl, subst, sym, true}
+use Rattle.scope_rules.specs.{Accepts, Event, Forking, History.History, Legal.Legal, Limits, Opening, Origin.Origin, Tasks.settled, closed, closing, earliest, ends, finishes, followed, forking, is_settled, opening, stage}
+use Rattle.scope_rules.proofs.Words.{both_ways, false_from_ne_true}
+use Rattle.scope_rules.proofs.{Innermosts.innermost_none, OneEventMore.along, OneEventMore.closed_split, OneEventMore.closing_stays, OneEventMore.forking_split, OneEventMore.opening_split, OneEventMore.unclosed_earlier}
+use Rattle.scope_rules.proofs.{PassedRows.IsActor, PassedRows.ender_passed, PassedRows.finisher_passed, PassedRows.forker_passed, PassedRows.opener_passed, SettledTasks.settled_task, SettledTasks.settled_where_all}
+use Rattle.scope_rules.proofs.{Stages.running_stays, Stages.settled_stays}
 
 -- the owner of each unclosed scope is main or runs
 abbrev OwnersAct : History → Type 0

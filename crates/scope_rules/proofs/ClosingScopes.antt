@@ -1,29 +1,13 @@
 -- If a scope is closed, so are those inside it, and without a scope of main no task waits or runs.
-use Rattle.std.proofs.Common.{◌≡◌, ℕ, zero, suc, ◌+◌, ◌<◌, ◌==◌, ◌||◌, Bool, true, false, Option, Some, None, option_map, [], length, refl, ap, sym, subst, ◌∙◌, arith, inl, inr, ◌⊎◌}
-use Rattle.std.proofs.lemmas.Bool.{false_from_ne_true, true_from_ne_false, both_ways, eq-eqb}
-use Rattle.std.specs.Option.{option_or}
-use Rattle.scope_rules.specs.declared.types.capacity.Limits.{Limits}
-use Rattle.scope_rules.specs.declared.types.events.Event.{Event}
-use Rattle.scope_rules.specs.declared.types.events.Event.TheVariants.{EndClose}
-use Rattle.scope_rules.specs.declared.types.records.Opening.{Opening}
-use Rattle.scope_rules.specs.declared.types.records.Forking.{Forking}
-use Rattle.scope_rules.specs.Origin.{Origin}
-use Rattle.scope_rules.specs.History.{History, before, followed, opening, forking, opening_of}
-use Rattle.scope_rules.specs.Scopes.{closed, ends, innermost, forked_in, surrounding, around, parent}
-use Rattle.scope_rules.specs.Tasks.{stage, is_running, is_settled}
-use Rattle.scope_rules.specs.Legal.{Accepts, Legal}
-use Rattle.scope_rules.specs.ClosingLaws.{LiesInside, directly, further, IsWhole}
-use Rattle.scope_rules.proofs.Openings.{and_then_some}
-use Rattle.scope_rules.proofs.Growing.{opening_place, opening_number, forking_number}
-use Rattle.scope_rules.proofs.PassedRows.{IsActor, EndRow, opener_passed, ender_passed}
-use Rattle.scope_rules.proofs.OneEventMore.{along, opening_ends_none, opening_split, closed_grows, closed_split, closed_stays, opening_later, forking_later}
-use Rattle.scope_rules.proofs.Innermosts.{opened_after, innermost_none, innermost_unclosed, innermost_later}
-use Rattle.scope_rules.proofs.ChainsGrow.{parent_stays}
-use Rattle.scope_rules.proofs.Forkings.{forked_after, main_unforked, forking_row, forker_owns}
-use Rattle.scope_rules.proofs.Stages.{running_unsettled, running_forked, unsettled_forked}
-use Rattle.scope_rules.proofs.SettledTasks.{settled_task}
-use Rattle.scope_rules.proofs.ClosingOwners.{owners_act, closed_task_settled, closed_is_settled}
-use Rattle.scope_rules.proofs.Pushing.{before_last}
+use Rattle.std.proofs.Common.{[], ℕ, ◌+◌, ◌<◌, ◌==◌, ◌||◌, ◌∙◌, ◌≡◌, ◌⊎◌, Bool, None, Option, Some, ap, arith, false, inl, inr, length, option_map, refl, subst, suc, sym, true, zero}
+use Rattle.scope_rules.specs.{Accepts, EndClose, Event, Forking, History.History, IsWhole, Legal.Legal, LiesInside, Limits, Opening, Origin.Origin, around, before, closed, directly, ends, followed, forked_in, forking, further}
+use Rattle.scope_rules.specs.{innermost, is_running, is_settled, opening, opening_of, option_or, parent, stage, surrounding}
+use Rattle.scope_rules.proofs.Words.{both_ways, eq-eqb, false_from_ne_true, true_from_ne_false}
+use Rattle.scope_rules.proofs.{ChainsGrow.parent_stays, ClosingOwners.closed_is_settled, ClosingOwners.closed_task_settled, ClosingOwners.owners_act, Forkings.forked_after, Forkings.forker_owns, Forkings.forking_row}
+use Rattle.scope_rules.proofs.{Forkings.main_unforked, Growing.forking_number, Growing.opening_number, Growing.opening_place, Innermosts.innermost_later, Innermosts.innermost_none, Innermosts.innermost_unclosed}
+use Rattle.scope_rules.proofs.{Innermosts.opened_after, OneEventMore.along, OneEventMore.closed_grows, OneEventMore.closed_split, OneEventMore.closed_stays, OneEventMore.forking_later, OneEventMore.opening_ends_none}
+use Rattle.scope_rules.proofs.{OneEventMore.opening_later, OneEventMore.opening_split, Openings.and_then_some, PassedRows.EndRow, PassedRows.IsActor, PassedRows.ender_passed, PassedRows.opener_passed, Pushing.before_last}
+use Rattle.scope_rules.proofs.{SettledTasks.settled_task, Stages.running_forked, Stages.running_unsettled, Stages.unsettled_forked}
 
 -- the actor is a task that was forked in scope s
 pub record IsTaskIn (h : History) (a s : ℕ) : Type 0 where

@@ -1,19 +1,7 @@
 -- What one event more makes of the completions of a scope.
-use Rattle.std.proofs.Common.{◌≡◌, ℕ, suc, cond, Option, Some, None, List, [], ◌∷◌, ◌++◌, slice_get, refl, ap, ◌∙◌}
-use Rattle.std.specs.List.{filter_map, cons_option}
-use Rattle.scope_rules.specs.declared.types.capacity.Limits.{Limits}
-use Rattle.scope_rules.specs.declared.types.events.Event.{Event}
-use Rattle.scope_rules.specs.declared.types.events.Event.TheVariants.{Finish}
-use Rattle.scope_rules.specs.declared.types.records.Forking.{Forking}
-use Rattle.scope_rules.specs.History.{History, before, followed, forking}
-use Rattle.scope_rules.specs.Completions.{is_task_of, completion_of, completions}
-use Rattle.scope_rules.specs.Legal.{Accepts, Legal}
-use Rattle.scope_rules.proofs.Completions.{filter_map-push}
-use Rattle.scope_rules.proofs.Earlier.{forking_since}
-use Rattle.scope_rules.proofs.Forkings.{IsForked}
-use Rattle.scope_rules.proofs.Growing.{forking_stays}
-use Rattle.scope_rules.proofs.PassedRows.{finish_passed}
-use Rattle.scope_rules.proofs.Stages.{running_forked}
+use Rattle.std.proofs.Common.{[], ℕ, ◌++◌, ◌∙◌, ◌∷◌, ◌≡◌, List, None, Option, Some, ap, cond, refl, slice_get, suc}
+use Rattle.scope_rules.specs.{Accepts, Event, Finish, Forking, History.History, Legal.Legal, Limits, before, completion_of, completions, cons_option, filter_map, followed, forking, is_task_of}
+use Rattle.scope_rules.proofs.{Completions.filter_map-push, Earlier.forking_since, Forkings.IsForked, Growing.forking_stays, PassedRows.finish_passed, Stages.running_forked}
 
 filter_map_same : {B : Type 0} (f g : Event → Option B) (es : List Event) → ((i : ℕ) (e : Event) → slice_get es i ≡ Some e → f e ≡ g e) → filter_map f es ≡ filter_map g es
 filter_map_same f g [] same = refl

@@ -1,16 +1,8 @@
 -- What is asked of completions can be asked of the events.
-use Rattle.std.proofs.Common.{◌≡◌, ℕ, ◌+◌, ◌||◌, Bool, false, cond, Option, Some, None, List, [], ◌∷◌, ◌++◌, take, slice_get, count_by, refl, ap, sym, ◌∙◌, ℤ, pos, ◌+ℤ◌, zero-add}
-use Rattle.std.proofs.lemmas.List.Sums.{sum_by-append}
-use Rattle.std.specs.Option.{option_map_or}
-use Rattle.std.specs.List.{list_any, filter_map, cons_option}
-use Rattle.std.proofs.Math.IntN.{+ℤ_comm, +ℤ_assoc, +ℤ_idr}
-use Rattle.std.proofs.lemmas.List.{append-nil}
+use Rattle.std.proofs.Common.{[], ℕ, ℤ, ◌++◌, ◌+ℤ◌, ◌+◌, ◌||◌, ◌∙◌, ◌∷◌, ◌≡◌, Bool, List, None, Option, Some, ap, cond, count_by, false, pos, refl, slice_get, sym, take, zero-add}
+use Rattle.scope_rules.specs.{Completion, Event, History.History, completion_of, completions, cons_option, filter_map, list_any, option_map_or, passes_at, summand_of_end, total_of}
+use Rattle.scope_rules.proofs.Words.{+ℤ_assoc, +ℤ_comm, +ℤ_idr, append-nil, sum_by-append}
 use Rattle.scope_rules.proofs.Prefixes.{take_at}
-use Rattle.scope_rules.specs.declared.types.events.Event.{Event}
-use Rattle.scope_rules.specs.declared.types.values.Completion.{Completion}
-use Rattle.scope_rules.specs.History.{History}
-use Rattle.scope_rules.specs.Joining.{total_of, summand_of_end}
-use Rattle.scope_rules.specs.Completions.{completion_of, completions, passes_at}
 
 list_any-cons_option : {B : Type 0} (p : B → Bool) (o : Option B) (ys : List B) → list_any p (cons_option o ys) ≡ (option_map_or p o false || list_any p ys)
 list_any-cons_option p None ys = refl

@@ -1,19 +1,10 @@
 -- What was found in a history is found in each prefix that reaches its place, and stays.
-use Rattle.std.proofs.Common.{◌≡◌, ℕ, zero, suc, ◌+◌, ◌-◌, ◌<◌, ◌≤◌, ◌==◌, Bool, false, Option, Some, None, List, [], ◌∷◌, length, take, slice_get, count_by, refl, ap, sym, subst, ◌∙◌, arith}
-use Rattle.std.proofs.lemmas.List.{length-take, take-take}
-use Rattle.std.specs.Option.{option_and_then, option_or}
-use Rattle.std.specs.List.{list_any}
-use Rattle.scope_rules.specs.declared.types.events.Event.{Event}
-use Rattle.scope_rules.specs.declared.types.events.Event.TheVariants.{Open, Fork}
-use Rattle.scope_rules.specs.declared.types.records.Opening.{Opening}
-use Rattle.scope_rules.specs.declared.types.records.Forking.{Forking}
-use Rattle.scope_rules.specs.Search.{earliest}
-use Rattle.scope_rules.specs.History.{History, before, scopes, tasks, opening, forking, numbered_at, is_open, is_fork, opening_of, forking_of}
-use Rattle.scope_rules.specs.Scopes.{ends, closed}
-use Rattle.scope_rules.proofs.Searching.{earliest_kept, earliest_found, earliest_same}
-use Rattle.scope_rules.proofs.Accepted.{or_left, or_right}
-use Rattle.scope_rules.proofs.Openings.{if_some, and_then_some, numbered_within, opens_it, forks_it}
-use Rattle.scope_rules.proofs.Growing.{numbered_entry}
+use Rattle.std.proofs.Common.{[], ℕ, ◌+◌, ◌-◌, ◌<◌, ◌==◌, ◌∙◌, ◌∷◌, ◌≡◌, ◌≤◌, Bool, List, None, Option, Some, ap, arith, count_by, false, length, refl, slice_get, subst, suc, sym, take, zero}
+use Rattle.scope_rules.specs.{Event, Fork, Forking, History.History, History.scopes, History.tasks, Opening, before, closed, declared.types.events.Event.TheVariants.Open, earliest, ends, forking, forking_of, is_fork, is_open}
+use Rattle.scope_rules.specs.{list_any, numbered_at, opening, opening_of, option_and_then, option_or}
+use Rattle.scope_rules.proofs.Words.{length-take, take-take}
+use Rattle.scope_rules.proofs.{Accepted.or_left, Accepted.or_right, Growing.numbered_entry, Openings.and_then_some, Openings.forks_it, Openings.if_some, Openings.numbered_within, Openings.opens_it, Searching.earliest_found}
+use Rattle.scope_rules.proofs.{Searching.earliest_kept, Searching.earliest_same}
 
 earliest_first_by : {A : Type 0} (f : ℕ → Option A) (x : A) (n : ℕ) (o : Option A) → earliest f n ≡ o → option_or o (f n) ≡ Some x
     → (earliest f n ≡ Some x → (i : ℕ) × (i < n) × (f i ≡ Some x) × (earliest f i ≡ None)) → (i : ℕ) × (i < suc n) × (f i ≡ Some x) × (earliest f i ≡ None)

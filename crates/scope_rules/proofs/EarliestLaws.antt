@@ -1,10 +1,7 @@
 -- The nearer of two, scope by scope, is the earliest of all.
-use Rattle.std.proofs.Common.{◌≡◌, ℕ, zero, suc, ◌<◌, ◌≤◌, cond, leb, Option, Some, None, List, [], ◌∷◌, length, get_or, refl, ap, sym, ◌∙◌, subst, inl, inr, arith}
-use Rattle.std.proofs.lemmas.Bool.{cases_Bool, leb-true, leb-false}
-use Rattle.std.proofs.lemmas.Option.{same_Some}
-use Rattle.scope_rules.specs.declared.types.records.FirstCancel.{FirstCancel}
-use Rattle.scope_rules.specs.Chains.{nearer, earliest_on, chain_by, first_cancel_by}
-use Rattle.scope_rules.specs.Earliest.{IsEarliestAt, IsEarliest}
+use Rattle.std.proofs.Common.{[], ℕ, ◌<◌, ◌∙◌, ◌∷◌, ◌≡◌, ◌≤◌, List, None, Option, Some, ap, arith, cond, get_or, inl, inr, leb, length, refl, subst, suc, sym, zero}
+use Rattle.scope_rules.specs.{FirstCancel, IsEarliest, IsEarliestAt, chain_by, earliest_on, first_cancel_by, nearer}
+use Rattle.scope_rules.proofs.Words.{cases_Bool, leb-false, leb-true, same_Some}
 
 pub some_none : {A : Type 0} (x : A) → None ≡ Some x → ⊥
 some_none x e = cc

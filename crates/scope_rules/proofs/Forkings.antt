@@ -1,17 +1,9 @@
 -- Where tasks were forked, and what the row of their forking wanted.
-use Rattle.std.proofs.Common.{◌≡◌, ℕ, ◌+◌, ◌<◌, ◌==◌, true, false, Option, Some, None, refl, sym, subst, arith}
-use Rattle.std.proofs.lemmas.Bool.{eqb-true}
-use Rattle.std.specs.Option.{option_map_or}
-use Rattle.scope_rules.specs.declared.types.capacity.Limits.{Limits}
-use Rattle.scope_rules.specs.declared.types.records.Opening.{Opening}
-use Rattle.scope_rules.specs.declared.types.records.Forking.{Forking}
-use Rattle.scope_rules.specs.History.{History, before, forked_count, opening, forking, is_open, is_fork, opening_of, forking_of}
-use Rattle.scope_rules.specs.Completions.{is_task_of}
-use Rattle.scope_rules.specs.Legal.{Legal}
-use Rattle.scope_rules.proofs.Openings.{numbered_within, forks_it}
-use Rattle.scope_rules.proofs.Growing.{numbered_entry, opening_place, forking_place}
-use Rattle.scope_rules.proofs.PassedRows.{IsActor, IsOwner, ForkRow, opener_passed, forker_passed}
-use Rattle.scope_rules.proofs.OneEventMore.{opening_later}
+use Rattle.std.proofs.Common.{ℕ, ◌+◌, ◌<◌, ◌==◌, ◌≡◌, None, Option, Some, arith, false, refl, subst, sym, true}
+use Rattle.scope_rules.specs.{Forking, History.History, Legal.Legal, Limits, Opening, before, forked_count, forking, forking_of, is_fork, is_open, is_task_of, opening, opening_of, option_map_or}
+use Rattle.scope_rules.proofs.Words.{eqb-true}
+use Rattle.scope_rules.proofs.{Growing.forking_place, Growing.numbered_entry, Growing.opening_place, OneEventMore.opening_later, Openings.forks_it, Openings.numbered_within, PassedRows.ForkRow, PassedRows.IsActor}
+use Rattle.scope_rules.proofs.{PassedRows.IsOwner, PassedRows.forker_passed, PassedRows.opener_passed}
 
 -- a task with this number was forked
 pub record IsForked (h : History) (k : ℕ) : Type 0 where

@@ -1,21 +1,9 @@
 -- What a history says of a prefix of it, and how it goes on.
-use Rattle.std.proofs.Common.{◌≡◌, ℕ, suc, ◌+◌, ◌<◌, ◌≤◌, ◌==◌, Bool, Option, Some, List, [], ◌∷◌, ◌++◌, length, take, slice_get, count_by, refl, ap, sym, ◌∙◌, arith, length-append}
-use Rattle.std.proofs.lemmas.List.{take-append-le}
-use Rattle.std.specs.Option.{option_and_then, option_or}
-use Rattle.std.proofs.lemmas.Bool.{eqb-true}
-use Rattle.scope_rules.specs.declared.types.events.Event.{Event}
-use Rattle.scope_rules.specs.declared.types.events.Event.TheVariants.{Open, Fork}
-use Rattle.scope_rules.specs.declared.types.records.OwnCancel.{OwnCancel}
-use Rattle.scope_rules.specs.declared.types.records.Opening.{Opening}
-use Rattle.scope_rules.specs.declared.types.records.Forking.{Forking}
-use Rattle.scope_rules.specs.Search.{earliest}
-use Rattle.scope_rules.specs.History.{History, before, followed, scopes, tasks, opening, forking, numbered_at, is_open, is_fork, opening_of, forking_of}
-use Rattle.scope_rules.specs.Cancels.{own, own_at}
-use Rattle.scope_rules.proofs.Searching.{earliest_kept, earliest_where, earliest_same}
-use Rattle.scope_rules.proofs.Openings.{if_some, and_then_some}
-use Rattle.scope_rules.proofs.Owing.{count_push}
-use Rattle.scope_rules.proofs.Pushing.{before_push}
-use Rattle.scope_rules.proofs.Prefixes.{get_push}
+use Rattle.std.proofs.Common.{[], ℕ, ◌++◌, ◌+◌, ◌<◌, ◌==◌, ◌∙◌, ◌∷◌, ◌≡◌, ◌≤◌, Bool, List, Option, Some, ap, arith, count_by, length, length-append, refl, slice_get, suc, sym, take}
+use Rattle.scope_rules.specs.{Event, Fork, Forking, History.History, History.scopes, History.tasks, Opening, OwnCancel, before, declared.types.events.Event.TheVariants.Open, earliest, followed, forking, forking_of, is_fork}
+use Rattle.scope_rules.specs.{is_open, numbered_at, opening, opening_of, option_and_then, option_or, own, own_at}
+use Rattle.scope_rules.proofs.Words.{eqb-true, take-append-le}
+use Rattle.scope_rules.proofs.{Openings.and_then_some, Openings.if_some, Owing.count_push, Prefixes.get_push, Pushing.before_push, Searching.earliest_kept, Searching.earliest_same, Searching.earliest_where}
 
 own_at_push : (h : History) (e : Event) (s i : ℕ) → i < length h.events → own_at (followed h e) s i ≡ own_at h s i
 unfolding own_at

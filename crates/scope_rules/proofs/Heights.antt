@@ -1,20 +1,10 @@
 -- While a scope isn't closed, its owner's stack is no lower than at the opening.
-use Rattle.std.proofs.Common.{◌≡◌, ℕ, zero, suc, ◌+◌, ◌-◌, ◌<◌, ◌≤◌, ◌==◌, ◌&&◌, ◌⊎◌, nat_le, Bool, true, false, not, Option, Some, None, List, [], ◌∷◌, length, slice_get, refl, ap, sym, ◌∙◌, arith, inl, inr, zero-add}
-use Rattle.std.proofs.lemmas.Bool.{eqb-true, eq-eqb, leb-true, le-leb, and_parts, and_from, not-true, not_from_false, or_cases, or_left, or_right, cases_lt, both_ways}
-use Rattle.std.specs.Option.{option_map_or}
-use Rattle.std.specs.List.{list_any, range_with_len}
-use Rattle.scope_rules.specs.declared.types.capacity.Limits.{Limits}
-use Rattle.scope_rules.specs.declared.types.events.Event.TheVariants.{Open, Unbind}
-use Rattle.scope_rules.specs.declared.types.records.Opening.{Opening}
-use Rattle.scope_rules.specs.History.{History, before, opened_count, opening}
-use Rattle.scope_rules.specs.Scopes.{closed}
-use Rattle.scope_rules.specs.Bindings.{stack, opened_above, holds_last}
-use Rattle.scope_rules.specs.Legal.{Legal}
-use Rattle.scope_rules.proofs.Accepted.{entry_at}
-use Rattle.scope_rules.proofs.Stacks.{stack_whole, height_more}
-use Rattle.scope_rules.proofs.StackEvents.{height_kept}
-use Rattle.scope_rules.proofs.Earlier.{opening_event, opening_before, unclosed_before, before_of_before, scope_number}
-use Rattle.scope_rules.proofs.BindingRows.{unbind_free}
+use Rattle.std.proofs.Common.{[], ℕ, ◌&&◌, ◌+◌, ◌-◌, ◌<◌, ◌==◌, ◌∙◌, ◌∷◌, ◌≡◌, ◌≤◌, ◌⊎◌, Bool, List, None, Option, Some, ap, arith, false, inl, inr, length, nat_le, not, refl, slice_get, suc, sym, true, zero, zero-add}
+use Rattle.scope_rules.specs.{History.History, Legal.Legal, Limits, Opening, Unbind, before, closed, declared.types.events.Event.TheVariants.Open, holds_last, list_any, opened_above, opened_count, opening, option_map_or}
+use Rattle.scope_rules.specs.{range_with_len, stack}
+use Rattle.scope_rules.proofs.Words.{and_from, and_parts, both_ways, cases_lt, eq-eqb, eqb-true, le-leb, leb-true, not-true, not_from_false, or_cases, or_left, or_right}
+use Rattle.scope_rules.proofs.{Accepted.entry_at, BindingRows.unbind_free, Earlier.before_of_before, Earlier.opening_before, Earlier.opening_event, Earlier.scope_number, Earlier.unclosed_before, StackEvents.height_kept}
+use Rattle.scope_rules.proofs.{Stacks.height_more, Stacks.stack_whole}
 
 pub range_any : (test : ℕ → Bool) (a k j : ℕ) → j < k → test (a + j) ≡ true → list_any test (range_with_len a k) ≡ true
 range_any test a zero j within is = absurd (omega arith)

@@ -1,22 +1,11 @@
 -- What a task inherits never changes: what its forker saw at the fork.
-use Rattle.std.proofs.Common.{◌≡◌, ℕ, zero, suc, ◌<◌, ◌≤◌, ◌⊎◌, ◌↔◌, true, false, Option, Some, None, IsTrue, List, [], ◌++◌, refl, ap, sym, subst, ◌∙◌, arith, inl, inr}
-use Rattle.std.proofs.lemmas.List.{append_cancel_left, length-take}
-use Rattle.std.proofs.lemmas.Option.{same_Some}
-use Rattle.std.specs.Option.{option_map_or}
-use Rattle.std.specs.Bool.{Decides}
-use Rattle.scope_rules.specs.declared.types.capacity.Limits.{Limits}
-use Rattle.scope_rules.specs.declared.types.events.Binding.{Binding}
-use Rattle.scope_rules.specs.declared.types.events.Event.TheVariants.{Open, Fork}
-use Rattle.scope_rules.specs.declared.types.records.Opening.{Opening}
-use Rattle.scope_rules.specs.declared.types.records.Forking.{Forking}
-use Rattle.scope_rules.specs.History.{History, before, opening, forking}
-use Rattle.scope_rules.specs.Bindings.{stack, bindings_within, bindings, same_pairs, bound_as_at, bound_as_opened}
-use Rattle.scope_rules.specs.Legal.{Accepts, Legal}
-use Rattle.scope_rules.proofs.Growing.{forking_number}
-use Rattle.scope_rules.proofs.Nesting.{legal_before}
-use Rattle.scope_rules.proofs.Earlier.{forking_event, forking_since, forking_within, opening_event, opening_since, opening_within, before_of_before, task_given}
-use Rattle.scope_rules.proofs.BindingRows.{IsForked, opener_acts, forker_acts, fork_opened, fork_owned, fork_bound}
-use Rattle.scope_rules.proofs.SamePairs.{same_pairs_tell}
+use Rattle.std.proofs.Common.{[], ℕ, ◌++◌, ◌<◌, ◌↔◌, ◌∙◌, ◌≡◌, ◌≤◌, ◌⊎◌, IsTrue, List, None, Option, Some, ap, arith, false, inl, inr, refl, subst, suc, sym, true, zero}
+use Rattle.scope_rules.specs.{Accepts, Binding, Decides, Fork, Forking, History.History, Legal.Legal, Limits, Opening, before, bindings, bindings_within, bound_as_at, bound_as_opened, declared.types.events.Event.TheVariants.Open}
+use Rattle.scope_rules.specs.{forking, opening, option_map_or, same_pairs, stack}
+use Rattle.scope_rules.proofs.Words.{append_cancel_left, length-take, same_Some}
+use Rattle.scope_rules.proofs.{BindingRows.IsForked, BindingRows.fork_bound, BindingRows.fork_opened, BindingRows.fork_owned, BindingRows.forker_acts, BindingRows.opener_acts, Earlier.before_of_before, Earlier.forking_event}
+use Rattle.scope_rules.proofs.{Earlier.forking_since, Earlier.forking_within, Earlier.opening_event, Earlier.opening_since, Earlier.opening_within, Earlier.task_given, Growing.forking_number, Nesting.legal_before}
+use Rattle.scope_rules.proofs.{SamePairs.same_pairs_tell}
 
 -- what was forked was accepted
 pub fork_was_accepted : (L : Limits) (h : History) (k : ℕ) (f : Forking) → Legal L h → forking h k ≡ Some f → Accepts L (before h f.place) (Fork f.actor f.scope f.label)

@@ -1,21 +1,11 @@
 -- After the end of a close the innermost scope of its actor is what it was when the scope was opened.
-use Rattle.std.proofs.Common.{◌≡◌, ℕ, ◌<◌, ◌==◌, ◌||◌, true, false, Option, Some, None, [], length, refl, ap, sym, subst, ◌∙◌, arith, inl, inr}
-use Rattle.std.proofs.lemmas.Bool.{eq-eqb, ne_eqb, cases_order, false_from_ne_true, both_ways, or_from, or_right}
-use Rattle.scope_rules.specs.declared.types.capacity.Limits.{Limits}
-use Rattle.scope_rules.specs.declared.types.events.Event.{Event}
-use Rattle.scope_rules.specs.declared.types.events.Event.TheVariants.{EndClose}
-use Rattle.scope_rules.specs.declared.types.records.Opening.{Opening}
-use Rattle.scope_rules.specs.Origin.{Origin}
-use Rattle.scope_rules.specs.Search.{earliest}
-use Rattle.scope_rules.specs.History.{History, before, followed, opening, opening_of}
-use Rattle.scope_rules.specs.Scopes.{closed, ends, innermost}
-use Rattle.scope_rules.specs.Legal.{Accepts, Legal}
-use Rattle.scope_rules.proofs.Pushing.{before_push, before_last}
-use Rattle.scope_rules.proofs.Growing.{opening_stays, opening_place, opening_number}
-use Rattle.scope_rules.proofs.PassedRows.{EndRow, ender_passed, end_close_passed}
-use Rattle.scope_rules.proofs.OneEventMore.{along, later, opening_ends_none, opening_same, opening_split, opening_later, closed_grows, closed_stays, unclosed_earlier}
-use Rattle.scope_rules.proofs.Innermosts.{HasUnclosed, opened_after, innermost_none, innermost_unclosed, innermost_later, innermost_is, innermost_is_none}
-use Rattle.scope_rules.proofs.Earlier.{opening_within}
+use Rattle.std.proofs.Common.{[], ℕ, ◌<◌, ◌==◌, ◌||◌, ◌∙◌, ◌≡◌, None, Option, Some, ap, arith, false, inl, inr, length, refl, subst, sym, true}
+use Rattle.scope_rules.specs.{Accepts, EndClose, Event, History.History, Legal.Legal, Limits, Opening, Origin.Origin, before, closed, earliest, ends, followed, innermost, opening, opening_of}
+use Rattle.scope_rules.proofs.Words.{both_ways, cases_order, eq-eqb, false_from_ne_true, ne_eqb, or_from, or_right}
+use Rattle.scope_rules.proofs.{Earlier.opening_within, Growing.opening_number, Growing.opening_place, Growing.opening_stays, Innermosts.HasUnclosed, Innermosts.innermost_is, Innermosts.innermost_is_none}
+use Rattle.scope_rules.proofs.{Innermosts.innermost_later, Innermosts.innermost_none, Innermosts.innermost_unclosed, Innermosts.opened_after, OneEventMore.along, OneEventMore.closed_grows, OneEventMore.closed_stays}
+use Rattle.scope_rules.proofs.{OneEventMore.later, OneEventMore.opening_ends_none, OneEventMore.opening_later, OneEventMore.opening_same, OneEventMore.opening_split, OneEventMore.unclosed_earlier, PassedRows.EndRow}
+use Rattle.scope_rules.proofs.{PassedRows.end_close_passed, PassedRows.ender_passed, Pushing.before_last, Pushing.before_push}
 
 -- before the opening of a scope one with a smaller number was opened
 abbrev OlderFirst : History → Type 0

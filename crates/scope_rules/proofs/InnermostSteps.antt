@@ -1,20 +1,11 @@
 -- The innermost scope of an actor after each kind of accepted event.
-use Rattle.std.proofs.Common.{◌≡◌, ◌≢◌, ℕ, ◌+◌, ◌≤◌, ◌==◌, ◌||◌, Bool, true, false, cond, Option, Some, None, [], length, refl, ap, sym, ◌∙◌, arith, inl, inr}
-use Rattle.std.proofs.lemmas.Bool.{eq-eqb, ne_eqb, cond-true, false_from_ne_true, or_from}
-use Rattle.std.specs.Option.{option_or}
-use Rattle.scope_rules.specs.declared.types.capacity.Limits.{Limits}
-use Rattle.scope_rules.specs.declared.types.events.Event.{Event}
-use Rattle.scope_rules.specs.declared.types.events.Event.TheVariants.{Open, EndClose}
-use Rattle.scope_rules.specs.declared.types.records.Opening.{Opening}
-use Rattle.scope_rules.specs.Origin.{Origin}
-use Rattle.scope_rules.specs.History.{History, followed, scopes, opening, is_open, opening_of}
-use Rattle.scope_rules.specs.Scopes.{closed, ends, innermost}
-use Rattle.scope_rules.specs.Legal.{Accepts, Legal}
-use Rattle.scope_rules.proofs.Growing.{opening_stays}
-use Rattle.scope_rules.proofs.Nesting.{IsOpened}
-use Rattle.scope_rules.proofs.PassedRows.{ender_passed, end_close_passed}
-use Rattle.scope_rules.proofs.OneEventMore.{along, no_opening, opening_grows, opening_split, closed_grows, closed_split, closed_stays}
-use Rattle.scope_rules.proofs.Innermosts.{opened_after, innermost_none, innermost_unclosed, innermost_later, innermost_is, innermost_is_none}
+use Rattle.std.proofs.Common.{[], ℕ, ◌+◌, ◌==◌, ◌||◌, ◌∙◌, ◌≡◌, ◌≢◌, ◌≤◌, Bool, None, Option, Some, ap, arith, cond, false, inl, inr, length, refl, sym, true}
+use Rattle.scope_rules.specs.{Accepts, EndClose, Event, History.History, History.scopes, Legal.Legal, Limits, Opening, Origin.Origin, closed, declared.types.events.Event.TheVariants.Open, ends, followed, innermost, is_open}
+use Rattle.scope_rules.specs.{opening, opening_of, option_or}
+use Rattle.scope_rules.proofs.Words.{cond-true, eq-eqb, false_from_ne_true, ne_eqb, or_from}
+use Rattle.scope_rules.proofs.{Growing.opening_stays, Innermosts.innermost_is, Innermosts.innermost_is_none, Innermosts.innermost_later, Innermosts.innermost_none, Innermosts.innermost_unclosed, Innermosts.opened_after}
+use Rattle.scope_rules.proofs.{Nesting.IsOpened, OneEventMore.along, OneEventMore.closed_grows, OneEventMore.closed_split, OneEventMore.closed_stays, OneEventMore.no_opening, OneEventMore.opening_grows, OneEventMore.opening_split}
+use Rattle.scope_rules.proofs.{PassedRows.end_close_passed, PassedRows.ender_passed}
 
 -- each closed scope was opened
 abbrev ClosedIsOpened : History → Type 0

@@ -1,11 +1,7 @@
 -- What the innermost scope of an actor says of its other scopes, and how it goes on.
-use Rattle.std.proofs.Common.{◌≡◌, ℕ, zero, suc, ◌+◌, ◌<◌, ◌≤◌, ◌==◌, ◌&&◌, Bool, true, false, not, cond, Option, Some, None, refl, ap, sym, ◌∙◌, arith, inl, inr}
-use Rattle.std.proofs.lemmas.Bool.{eqb-true, eq-eqb, cases_eq, cases_lt}
-use Rattle.std.specs.Option.{option_and_then, option_or}
-use Rattle.scope_rules.specs.declared.types.records.Opening.{Opening}
-use Rattle.scope_rules.specs.Search.{latest}
-use Rattle.scope_rules.specs.History.{History, opened_count, opening, is_open, opening_of}
-use Rattle.scope_rules.specs.Scopes.{closed, unclosed_of, innermost}
+use Rattle.std.proofs.Common.{ℕ, ◌&&◌, ◌+◌, ◌<◌, ◌==◌, ◌∙◌, ◌≡◌, ◌≤◌, Bool, None, Option, Some, ap, arith, cond, false, inl, inr, not, refl, suc, sym, true, zero}
+use Rattle.scope_rules.specs.{History.History, Opening, closed, innermost, is_open, latest, opened_count, opening, opening_of, option_and_then, option_or, unclosed_of}
+use Rattle.scope_rules.proofs.Words.{cases_eq, cases_lt, eq-eqb, eqb-true}
 use Rattle.scope_rules.proofs.Openings.{and_then_some, numbered_within, opens_it}
 
 -- the actor opened scope s, and has not closed it

@@ -1,19 +1,8 @@
 -- What is joined has an outcome.
-use Rattle.std.proofs.Common.{◌≡◌, ℕ, zero, suc, ◌≤◌, ◌||◌, Bool, true, false, cond, Option, Some, None, Ok, length, take, is_some, option_map, refl, ap, ◌∙◌, arith, add-one}
-use Rattle.std.proofs.lemmas.List.{take_all}
-use Rattle.std.specs.Option.{option_and_then, option_or}
-use Rattle.std.specs.List.{list_any}
-use Rattle.scope_rules.specs.declared.types.records.Opening.{Opening}
-use Rattle.scope_rules.specs.Search.{earliest}
-use Rattle.scope_rules.specs.History.{History, before, opening}
-use Rattle.scope_rules.specs.Scopes.{joins, joined}
-use Rattle.scope_rules.specs.Checks.{known_scope}
-use Rattle.scope_rules.specs.Outcomes.{joining_at, joining, outcome, outcome_of}
-use Rattle.scope_rules.specs.Replies.{outcome_check}
-use Rattle.scope_rules.proofs.Prefixes.{take_at}
-use Rattle.scope_rules.proofs.Numbers.{list_any-push}
-use Rattle.scope_rules.proofs.Accepted.{checks_at, not_refused, not_not, entry_at}
-use Rattle.scope_rules.proofs.Owing.{if_refused}
+use Rattle.std.proofs.Common.{ℕ, ◌||◌, ◌∙◌, ◌≡◌, ◌≤◌, Bool, None, Ok, Option, Some, add-one, ap, arith, cond, false, is_some, length, option_map, refl, suc, take, true, zero}
+use Rattle.scope_rules.specs.{History.History, Opening, Scopes.joined, before, earliest, joining, joining_at, joins, known_scope, list_any, opening, option_and_then, option_or, outcome, outcome_check, outcome_of}
+use Rattle.scope_rules.proofs.Words.{take_all}
+use Rattle.scope_rules.proofs.{Accepted.checks_at, Accepted.entry_at, Accepted.not_not, Accepted.not_refused, Numbers.list_any-push, Owing.if_refused, Prefixes.take_at}
 
 or_none_left : {A : Type 0} (o p : Option A) → option_or o p ≡ None → o ≡ None
 or_none_left None p h = refl

@@ -1,22 +1,9 @@
 -- Where an actor's last pair was bound, and which scopes hold it.
-use Rattle.std.proofs.Common.{◌≡◌, ℕ, zero, suc, ◌+◌, ◌<◌, ◌≤◌, ◌⊎◌, ◌↔◌, IsTrue, Some, [], ◌∷◌, ◌++◌, length, take, slice_get, ap, sym, subst, ◌∙◌, arith, inl, inr, add-one, length-append}
-use Rattle.std.proofs.lemmas.Bool.{cases_order, cases_lt}
-use Rattle.std.proofs.lemmas.List.{take_all}
-use Rattle.std.proofs.lemmas.Option.{slice_get_within}
-use Rattle.scope_rules.specs.declared.types.capacity.Limits.{Limits}
-use Rattle.scope_rules.specs.declared.types.events.Binding.{Binding}
-use Rattle.scope_rules.specs.declared.types.events.Event.{Event}
-use Rattle.scope_rules.specs.declared.types.events.Event.TheVariants.{Bind}
-use Rattle.scope_rules.specs.History.{History, before}
-use Rattle.scope_rules.specs.Bindings.{stacked, first_stack, stack, holds_last}
-use Rattle.scope_rules.specs.Legal.{Legal}
-use Rattle.scope_rules.specs.BindingLaws.{IsLastBound, BeganWithAll, HasOpenedSince}
-use Rattle.scope_rules.proofs.Accepted.{entry_at}
-use Rattle.scope_rules.proofs.Pushing.{before_all}
-use Rattle.scope_rules.proofs.Stacks.{stack_none, stack_more}
-use Rattle.scope_rules.proofs.StackEvents.{stacked_bind, stacked_keeps, stacked_heightens, Heightens}
-use Rattle.scope_rules.proofs.Earlier.{opening_within}
-use Rattle.scope_rules.proofs.Heights.{HoldsLast, found_by_test, test_finds, stack_above}
+use Rattle.std.proofs.Common.{[], ℕ, ◌++◌, ◌+◌, ◌<◌, ◌↔◌, ◌∙◌, ◌∷◌, ◌≡◌, ◌≤◌, ◌⊎◌, IsTrue, Some, add-one, ap, arith, inl, inr, length, length-append, slice_get, subst, suc, sym, take, zero}
+use Rattle.scope_rules.specs.{BeganWithAll, Bind, Binding, Event, HasOpenedSince, History.History, IsLastBound, Legal.Legal, Limits, before, first_stack, holds_last, stack, stacked}
+use Rattle.scope_rules.proofs.Words.{cases_lt, cases_order, slice_get_within, take_all}
+use Rattle.scope_rules.proofs.{Accepted.entry_at, Earlier.opening_within, Heights.HoldsLast, Heights.found_by_test, Heights.stack_above, Heights.test_finds, Pushing.before_all, StackEvents.Heightens, StackEvents.stacked_bind}
+use Rattle.scope_rules.proofs.{StackEvents.stacked_heightens, StackEvents.stacked_keeps, Stacks.stack_more, Stacks.stack_none}
 
 -- the first n pairs that the actor has before place k are those it began with, and it has had as many
 -- ever since

@@ -1,15 +1,8 @@
 -- The lesser of two deadlines, scope by scope, is the least of all.
-use Rattle.std.proofs.Common.{◌≡◌, ℕ, zero, suc, ◌≤◌, Bool, true, false, Option, Some, None, List, [], ◌∷◌, refl, sym, subst, ◌∙◌, arith, inl, inr}
-use Rattle.std.specs.List.{Contains}
+use Rattle.std.proofs.Common.{[], ℕ, ◌∙◌, ◌∷◌, ◌≡◌, ◌≤◌, Bool, List, None, Option, Some, arith, false, inl, inr, refl, subst, suc, sym, true, zero}
 use Rattle.std.specs.Bool.{if◌then◌else◌}
-use Rattle.std.proofs.lemmas.Bool.{cases_lt}
-use Rattle.std.proofs.lemmas.Option.{same_Some}
-use Rattle.scope_rules.specs.declared.types.answers.Effective.TheVariants.{Past}
-use Rattle.scope_rules.specs.Chains.{sooner, least_on, at_moment}
-use Rattle.scope_rules.specs.History.{History}
-use Rattle.scope_rules.specs.Scopes.{chain}
-use Rattle.scope_rules.specs.Cancels.{is_cancelled, first_cancel, counting_deadline, effective}
-use Rattle.scope_rules.specs.DeadlineLaws.{IsInEffect}
+use Rattle.scope_rules.specs.{Contains, History.History, IsInEffect, Past, at_moment, chain, counting_deadline, effective, first_cancel, is_cancelled, least_on, sooner}
+use Rattle.scope_rules.proofs.Words.{cases_lt, same_Some}
 
 -- a deadline of the scopes, which none of theirs is less than
 record IsLeast (deadline : ℕ → Option ℕ) (ss : List ℕ) (d : ℕ) : Type 0 where

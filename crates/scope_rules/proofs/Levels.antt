@@ -1,13 +1,7 @@
 -- In a legal history a scope lies one level below its parent.
-use Rattle.std.proofs.Common.{◌≡◌, ℕ, suc, ◌+◌, Option, Some, None, length, refl, ◌∙◌, arith}
-use Rattle.std.specs.Option.{option_map_or}
-use Rattle.scope_rules.specs.declared.types.capacity.Limits.{Limits}
-use Rattle.scope_rules.specs.Chains.{IsInward, onward, chain_by}
-use Rattle.scope_rules.specs.History.{History}
-use Rattle.scope_rules.specs.Scopes.{parent, level}
-use Rattle.scope_rules.specs.Legal.{Legal}
-use Rattle.scope_rules.proofs.ChainLaws.{level_law}
-use Rattle.scope_rules.proofs.Parents.{parent_smaller}
+use Rattle.std.proofs.Common.{ℕ, ◌+◌, ◌∙◌, ◌≡◌, None, Option, Some, arith, length, refl, suc}
+use Rattle.scope_rules.specs.{History.History, IsInward, Legal.Legal, Limits, chain_by, level, onward, option_map_or, parent}
+use Rattle.scope_rules.proofs.{ChainLaws.level_law, Parents.parent_smaller}
 
 -- in a legal history each parent has a smaller number
 pub parent_inward : (L : Limits) (h : History) → Legal L h → IsInward (parent h)

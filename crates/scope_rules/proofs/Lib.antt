@@ -53,3 +53,4 @@ pub mod Bound
 pub mod NewScopes
 pub mod VerdictSteps
 pub mod NameBytes
+mod Words

@@ -1,12 +1,8 @@
 -- For how many numbers an event is still to come, and how one event more lowers that.
-use Rattle.std.proofs.Common.{◌≡◌, ℕ, zero, suc, ◌+◌, ◌≤◌, ◌==◌, ◌||◌, Bool, true, false, not, cond, Option, Some, List, [], ◌∷◌, ◌++◌, slice_get, count_by, refl, ap, sym, ◌∙◌, arith}
-use Rattle.std.proofs.lemmas.Bool.{eq-eqb}
-use Rattle.std.specs.Option.{option_map_or}
-use Rattle.std.specs.List.{list_any, range_with_len}
-use Rattle.scope_rules.specs.declared.types.events.Event.{Event}
-use Rattle.scope_rules.specs.Owed.{missing, lacks, marks}
-use Rattle.scope_rules.proofs.Completions.{count_by-cons}
-use Rattle.scope_rules.proofs.Numbers.{list_any-push, count_by_range}
+use Rattle.std.proofs.Common.{[], ℕ, ◌++◌, ◌+◌, ◌==◌, ◌||◌, ◌∙◌, ◌∷◌, ◌≡◌, ◌≤◌, Bool, List, Option, Some, ap, arith, cond, count_by, false, not, refl, slice_get, suc, sym, true, zero}
+use Rattle.scope_rules.specs.{Event, lacks, list_any, marks, missing, option_map_or, range_with_len}
+use Rattle.scope_rules.proofs.Words.{eq-eqb}
+use Rattle.scope_rules.proofs.{Completions.count_by-cons, Numbers.count_by_range, Numbers.list_any-push}
 
 cond_weaker : (b c : Bool) → (b ≡ true → c ≡ true) → cond b 1 0 ≤ cond c 1 0
 cond_weaker true c h = rw (h refl) (omega arith)

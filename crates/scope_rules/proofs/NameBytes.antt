@@ -1,15 +1,7 @@
 -- The bytes of a name are ASCII, and so UTF-8.
-use Rattle.std.proofs.Common.{◌≡◌, ℕ, zero, suc, ◌<◌, true, List, [], ◌∷◌, take, get_or, arith}
-use Rattle.std.proofs.Props.{props}
-use Rattle.std.proofs.Math.Logic.{∥∥₁_elim}
-use Rattle.std.proofs.lemmas.Bool.Decides.{nat_tests}
-use Rattle.std.proofs.lemmas.Grind.{common_steps}
-use Rattle.std.proofs.lemmas.Str.{IsUtf8-from_ascii}
-use Rattle.std.specs.List.{list_all}
-use Rattle.std.specs.Str.{IsUtf8}
-use Rattle.scope_rules.specs.NameText.{is_inner, is_name}
-use Rattle.scope_rules.specs.Names.{text_of}
-use Rattle.scope_rules.specs.declared.types.names.Name.{Name}
+use Rattle.std.proofs.Common.{[], ℕ, ◌<◌, ◌∷◌, ◌≡◌, List, arith, get_or, suc, take, true, zero}
+use Rattle.scope_rules.specs.{IsUtf8, Name, is_inner, is_name, list_all, text_of}
+use Rattle.scope_rules.proofs.Words.{∥∥₁_elim, IsUtf8-from_ascii, common_steps, nat_tests, props}
 use Rattle.scope_rules.proofs.StoredNames.{stored_parts}
 
 inner_is_ascii : (b : ℕ) → is_inner b ≡ true → b < 128

@@ -1,11 +1,7 @@
 -- A name is known by its text.
-use Rattle.std.proofs.Common.{◌≡◌, IsTrue, ℕ, ◌-◌, ◌++◌, List, length, take, drop, replicate, ap, sym, subst, ◌∙◌, arith}
-use Rattle.std.proofs.lemmas.List.{length-take, take-append-drop}
-use Rattle.std.proofs.Props.{props}
-use Rattle.std.proofs.Math.Logic.{∥∥₁_elim}
-use Rattle.scope_rules.specs.NameText.{is_stored}
-use Rattle.scope_rules.specs.Names.{text_of}
-use Rattle.scope_rules.specs.declared.types.names.Name.{Name}
+use Rattle.std.proofs.Common.{ℕ, ◌++◌, ◌-◌, ◌∙◌, ◌≡◌, IsTrue, List, ap, arith, drop, length, replicate, subst, sym, take}
+use Rattle.scope_rules.specs.{Name, is_stored, text_of}
+use Rattle.scope_rules.proofs.Words.{∥∥₁_elim, length-take, props, take-append-drop}
 use Rattle.scope_rules.proofs.StoredNames.{StoredText, stored_parts}
 
 -- of two stored texts that are equal the lengths are equal

@@ -1,25 +1,11 @@
 -- In a legal history what lies around a scope was opened before it.
-use Rattle.std.proofs.Common.{◌≡◌, ℕ, zero, suc, ◌+◌, ◌<◌, ◌≤◌, ◌==◌, ◌&&◌, Bool, true, false, not, cond, Option, Some, None, List, [], ◌∷◌, ◌++◌, take, drop, slice_get, is_some, option_map, refl, ap, sym, subst, ◌∙◌, arith, append_assoc}
-use Rattle.std.proofs.lemmas.List.{append-nil, take-append-drop}
-use Rattle.std.specs.Option.{option_or}
-use Rattle.scope_rules.specs.declared.types.capacity.Limits.{Limits}
-use Rattle.scope_rules.specs.declared.types.events.Event.{Event}
-use Rattle.scope_rules.specs.declared.types.events.Event.TheVariants.{Fork}
-use Rattle.scope_rules.specs.declared.types.records.Opening.{Opening}
-use Rattle.scope_rules.specs.declared.types.records.Forking.{Forking}
-use Rattle.scope_rules.specs.History.{History, before, followed, opened_count, opening, forking, is_fork, forking_of}
-use Rattle.scope_rules.specs.Scopes.{closed, unclosed_of, innermost, forked_in, surrounding, around, outer, chain}
-use Rattle.scope_rules.specs.Chains.{IsInward, onward}
-use Rattle.scope_rules.specs.Checks.{known_scope}
-use Rattle.scope_rules.specs.Table.{row_check}
-use Rattle.scope_rules.specs.Legal.{Accepts, Legal}
-use Rattle.scope_rules.proofs.Accepted.{checks_at, not_refused, not_not}
-use Rattle.scope_rules.proofs.Owing.{if_refused}
-use Rattle.scope_rules.proofs.Openings.{and_then_some, if_some}
-use Rattle.scope_rules.proofs.ChainLaws.{chain_law}
-use Rattle.scope_rules.proofs.Growing.{opening_stays, opening_number, numbered_entry}
-use Rattle.scope_rules.proofs.Searching.{latest_where}
-use Rattle.scope_rules.proofs.Earlier.{scope_given, before_of_before}
+use Rattle.std.proofs.Common.{[], ℕ, ◌&&◌, ◌++◌, ◌+◌, ◌<◌, ◌==◌, ◌∙◌, ◌∷◌, ◌≡◌, ◌≤◌, Bool, List, None, Option, Some, ap, append_assoc, arith, cond, drop, false, is_some, not, option_map, refl, slice_get, subst, suc, sym, take}
+use Rattle.std.proofs.Common.{true, zero}
+use Rattle.scope_rules.specs.{Accepts, Event, Fork, Forking, History.History, IsInward, Legal.Legal, Limits, Opening, around, before, chain, closed, followed, forked_in, forking, forking_of, innermost, is_fork, known_scope}
+use Rattle.scope_rules.specs.{onward, opened_count, opening, option_or, outer, row_check, surrounding, unclosed_of}
+use Rattle.scope_rules.proofs.Words.{append-nil, take-append-drop}
+use Rattle.scope_rules.proofs.{Accepted.checks_at, Accepted.not_not, Accepted.not_refused, ChainLaws.chain_law, Earlier.before_of_before, Earlier.scope_given, Growing.numbered_entry, Growing.opening_number, Growing.opening_stays}
+use Rattle.scope_rules.proofs.{Openings.and_then_some, Openings.if_some, Owing.if_refused, Searching.latest_where}
 
 -- a scope with this number was opened
 pub record IsOpened (h : History) (s : ℕ) : Type 0 where

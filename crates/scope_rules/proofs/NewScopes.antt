@@ -1,30 +1,10 @@
 -- Of a scope that was never opened nothing is said, and it has no tasks.
-use Rattle.std.proofs.Common.{◌≡◌, ◌≢◌, ℕ, ◌==◌, ◌&&◌, ◌||◌, Bool, true, false, cond, Option, Some, None, Ok, List, [], ◌∷◌, count_by, refl, ap, sym, subst, ◌∙◌, arith, inl, inr, ◌⊎◌}
-use Rattle.std.proofs.lemmas.Bool.{eqb-true, ne_eqb}
-use Rattle.std.specs.Option.{option_or, option_map_or}
-use Rattle.std.specs.List.{filter_map}
-use Rattle.scope_rules.specs.declared.types.capacity.Limits.{Limits}
-use Rattle.scope_rules.specs.declared.types.answers.Stage.{Stage}
-use Rattle.scope_rules.specs.declared.types.events.Event.{Event}
-use Rattle.scope_rules.specs.declared.types.events.Event.TheVariants.{Move, Join, Finish}
-use Rattle.scope_rules.specs.declared.types.records.Forking.{Forking}
-use Rattle.scope_rules.specs.Origin.{Origin}
-use Rattle.scope_rules.specs.Search.{last_of}
-use Rattle.scope_rules.specs.History.{History, followed, opening, forking, task_numbers}
-use Rattle.scope_rules.specs.Scopes.{joins, joined}
-use Rattle.scope_rules.specs.Cancels.{move_of}
-use Rattle.scope_rules.specs.Completions.{is_task_of, completion_of, completions}
-use Rattle.scope_rules.specs.Tasks.{stage, is_at, is_stage}
-use Rattle.scope_rules.specs.Checks.{scope_check, known_scope}
-use Rattle.scope_rules.specs.Table.{row_check}
-use Rattle.scope_rules.specs.Legal.{Accepts, Legal}
-use Rattle.scope_rules.proofs.Accepted.{checks_at, not_refused, not_not}
-use Rattle.scope_rules.proofs.Completions.{count_by-cons}
-use Rattle.scope_rules.proofs.Growing.{opening_stays}
-use Rattle.scope_rules.proofs.Nesting.{IsOpened, opened_some}
-use Rattle.scope_rules.proofs.OneEventMore.{along, joined_grows}
-use Rattle.scope_rules.proofs.Owing.{if_refused}
-use Rattle.scope_rules.proofs.Prefixes.{last_of-push}
+use Rattle.std.proofs.Common.{[], ℕ, ◌&&◌, ◌==◌, ◌||◌, ◌∙◌, ◌∷◌, ◌≡◌, ◌≢◌, ◌⊎◌, Bool, List, None, Ok, Option, Some, ap, arith, cond, count_by, false, inl, inr, refl, subst, sym, true}
+use Rattle.scope_rules.specs.{Accepts, Event, Finish, Forking, History.History, Join, Legal.Legal, Limits, Move, Origin.Origin, Scopes.joined, Stage, completion_of, completions, filter_map, followed, forking, is_at, is_stage}
+use Rattle.scope_rules.specs.{is_task_of, joins, known_scope, last_of, move_of, opening, option_map_or, option_or, row_check, scope_check, stage, task_numbers}
+use Rattle.scope_rules.proofs.Words.{eqb-true, ne_eqb}
+use Rattle.scope_rules.proofs.{Accepted.checks_at, Accepted.not_not, Accepted.not_refused, Completions.count_by-cons, Growing.opening_stays, Nesting.IsOpened, Nesting.opened_some, OneEventMore.along, OneEventMore.joined_grows}
+use Rattle.scope_rules.proofs.{Owing.if_refused, Prefixes.last_of-push}
 
 -- a scope that passed was opened
 pub scope_passed : (h : History) (s : ℕ) → scope_check h s ≡ Ok tt → IsOpened h s

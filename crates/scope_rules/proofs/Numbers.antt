@@ -1,8 +1,8 @@
 -- What is asked of a range of numbers, one number more.
-use Rattle.std.proofs.Common.{◌≡◌, ℕ, zero, suc, ◌+◌, ◌||◌, Bool, true, false, cond, Option, List, [], ◌∷◌, ◌++◌, count_by, refl, ap, sym, ◌∙◌, arith, add-one, add-zero}
-use Rattle.std.specs.List.{list_any, range_with_len, filter_map, cons_option}
+use Rattle.std.proofs.Common.{[], ℕ, ◌++◌, ◌+◌, ◌||◌, ◌∙◌, ◌∷◌, ◌≡◌, Bool, List, Option, add-one, add-zero, ap, arith, cond, count_by, false, refl, suc, sym, true, zero}
+use Rattle.scope_rules.specs.{cons_option, filter_map, list_any, range_with_len}
+use Rattle.scope_rules.proofs.Words.{sum_by-append}
 use Rattle.scope_rules.proofs.Completions.{filter_map-push}
-use Rattle.std.proofs.lemmas.List.Sums.{sum_by-append}
 
 -- one number more stands at the end
 pub range_push : (a n : ℕ) → range_with_len a (n + 1) ≡ range_with_len a n ++ (a + n) ∷ []

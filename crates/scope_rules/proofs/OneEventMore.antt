@@ -1,27 +1,12 @@
 -- What one event more makes of openings, forkings, ends and closes, and what holds along a history.
-use Rattle.std.proofs.Common.{◌≡◌, ◌≢◌, ℕ, zero, suc, ◌+◌, ◌<◌, ◌≤◌, ◌==◌, ◌||◌, Bool, true, false, cond, Option, Some, None, List, [], ◌∷◌, ◌++◌, length, take, drop, slice_get, count_by, refl, ap, sym, subst, ◌∙◌, arith, length-append, append_assoc, add-one, inl, inr, ◌⊎◌}
-use Rattle.std.proofs.lemmas.Bool.{eqb-true, ne_eqb}
-use Rattle.std.proofs.lemmas.List.{take_all, take-append-le, append-nil, take-append-drop}
-use Rattle.std.specs.Option.{option_or}
-use Rattle.scope_rules.specs.declared.types.capacity.Limits.{Limits}
-use Rattle.scope_rules.specs.declared.types.events.Event.{Event}
-use Rattle.scope_rules.specs.declared.types.events.Event.TheVariants.{Open, Fork}
-use Rattle.scope_rules.specs.declared.types.records.Opening.{Opening}
-use Rattle.scope_rules.specs.declared.types.records.Forking.{Forking}
-use Rattle.scope_rules.specs.Origin.{Origin}
-use Rattle.scope_rules.specs.Search.{earliest, some_below}
-use Rattle.scope_rules.specs.History.{History, before, followed, scopes, tasks, opening, forking, numbered_at, is_open, is_fork, opening_of, forking_of}
-use Rattle.scope_rules.specs.Scopes.{joins, joined, ends, closed, closing, closing_at, begins_closing}
-use Rattle.scope_rules.specs.Tasks.{rejects, rejected, starts, started, finishes, finished}
-use Rattle.scope_rules.specs.Legal.{Accepts, Legal}
-use Rattle.scope_rules.proofs.Searching.{some_below_more, earliest_same}
-use Rattle.scope_rules.proofs.Prefixes.{take_at, option_or-none, get_push}
-use Rattle.scope_rules.proofs.Openings.{if_some}
-use Rattle.scope_rules.proofs.Numbers.{list_any-push}
-use Rattle.scope_rules.proofs.Accepted.{entry_at, or_left}
-use Rattle.scope_rules.proofs.Pushing.{before_push, before_all, before_last}
-use Rattle.scope_rules.proofs.Growing.{opening_stays, forking_stays}
-use Rattle.scope_rules.proofs.Nesting.{legal_before}
+use Rattle.std.proofs.Common.{[], ℕ, ◌++◌, ◌+◌, ◌<◌, ◌==◌, ◌||◌, ◌∙◌, ◌∷◌, ◌≡◌, ◌≢◌, ◌≤◌, ◌⊎◌, Bool, List, None, Option, Some, add-one, ap, append_assoc, arith, cond, count_by, drop, false, inl, inr, length, length-append, refl}
+use Rattle.std.proofs.Common.{slice_get, subst, suc, sym, take, true, zero}
+use Rattle.scope_rules.specs.{Accepts, Event, Fork, Forking, History.History, History.scopes, History.tasks, Legal.Legal, Limits, Opening, Origin.Origin, Scopes.joined, before, begins_closing, closed, closing, closing_at}
+use Rattle.scope_rules.specs.{declared.types.events.Event.TheVariants.Open, earliest, ends, finished, finishes, followed, forking, forking_of, is_fork, is_open, joins, numbered_at, opening, opening_of, option_or, rejected}
+use Rattle.scope_rules.specs.{rejects, some_below, started, starts}
+use Rattle.scope_rules.proofs.Words.{append-nil, eqb-true, ne_eqb, take-append-drop, take-append-le, take_all}
+use Rattle.scope_rules.proofs.{Accepted.entry_at, Accepted.or_left, Growing.forking_stays, Growing.opening_stays, Nesting.legal_before, Numbers.list_any-push, Openings.if_some, Prefixes.get_push, Prefixes.option_or-none}
+use Rattle.scope_rules.proofs.{Prefixes.take_at, Pushing.before_all, Pushing.before_last, Pushing.before_push, Searching.earliest_same, Searching.some_below_more}
 
 -- the last event stands after the others
 pub last_event : (es : List Event) (e : Event) → slice_get (es ++ e ∷ []) (length es) ≡ Some e

@@ -1,15 +1,8 @@
 -- The searches for the n-th Open and the n-th Fork, which go on with a running number.
-use Rattle.std.proofs.Common.{◌≡◌, ◌≢◌, ℕ, ◌+◌, ◌<◌, ◌≤◌, ◌==◌, Bool, true, false, Option, Some, None, List, length, take, slice_get, count_by, cond, arith, refl, sym}
-use Rattle.std.specs.Option.{option_and_then}
-use Rattle.std.proofs.lemmas.Bool.{ne_eqb, eq-eqb, eqb-true}
-use Rattle.scope_rules.specs.declared.types.events.Event.{Event}
-use Rattle.scope_rules.specs.History.{numbered_at, is_open, is_fork, opening_of, forking_of}
-use Rattle.scope_rules.specs.Search.{earliest}
-use Rattle.scope_rules.proofs.Searching.{earliest_none_step, earliest_found, earliest_where}
-use Rattle.scope_rules.proofs.Prefixes.{count_by_at_no, count_by_at_yes, count_by-take-le}
-use Rattle.scope_rules.specs.declared.types.records.Opening.{Opening}
-use Rattle.scope_rules.specs.declared.types.records.Forking.{Forking}
-use Rattle.scope_rules.specs.declared.types.events.Event.TheVariants.{Open, Fork}
+use Rattle.std.proofs.Common.{ℕ, ◌+◌, ◌<◌, ◌==◌, ◌≡◌, ◌≢◌, ◌≤◌, Bool, List, None, Option, Some, arith, cond, count_by, false, length, refl, slice_get, sym, take, true}
+use Rattle.scope_rules.specs.{Event, Fork, Forking, Opening, declared.types.events.Event.TheVariants.Open, earliest, forking_of, is_fork, is_open, numbered_at, opening_of, option_and_then}
+use Rattle.scope_rules.proofs.Words.{eq-eqb, eqb-true, ne_eqb}
+use Rattle.scope_rules.proofs.{Prefixes.count_by-take-le, Prefixes.count_by_at_no, Prefixes.count_by_at_yes, Searching.earliest_found, Searching.earliest_none_step, Searching.earliest_where}
 
 abbrev cond_same : {A : Type 0} (b : Bool) → {x : A} → cond b x x ≡ x
 cond_same true = refl

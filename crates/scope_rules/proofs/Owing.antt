@@ -1,20 +1,11 @@
 -- An accepted event pays for what is owed after it.
-use Rattle.std.proofs.Common.{◌≡◌, ℕ, zero, suc, ◌+◌, ◌*◌, ◌<◌, ◌≤◌, Bool, true, false, cond, Option, Some, None, Ok, Err, List, [], ◌∷◌, ◌++◌, length, slice_get, count_by, is_some, refl, ap, ◌∙◌, arith}
-use Rattle.std.proofs.lemmas.List.Sums.{sum_by-append}
-use Rattle.std.specs.List.{range_with_len}
-use Rattle.scope_rules.specs.declared.types.capacity.Limits.{Limits}
-use Rattle.scope_rules.specs.declared.types.events.Event.{Event}
-use Rattle.scope_rules.specs.declared.types.events.Event.TheVariants.{Open, Fork, Reject, Start, Finish, Cancel, Move, Tick, Bind, Unbind, Join, BeginClose, EndClose}
-use Rattle.scope_rules.specs.Search.{earliest}
-use Rattle.scope_rules.specs.History.{History, followed, opening, forking, numbered_at, is_open, is_fork, opening_of, forking_of, scope_numbers, task_numbers}
-use Rattle.scope_rules.specs.Checks.{Checked, scope_check, task_check, known_scope, known_task}
-use Rattle.scope_rules.specs.Table.{row_check}
-use Rattle.scope_rules.specs.Load.{weight}
-use Rattle.scope_rules.specs.Legal.{Accepts}
-use Rattle.scope_rules.specs.Owed.{missing, owed, lacks, join_mark, begin_mark, end_mark, take_mark, finish_mark}
-use Rattle.scope_rules.proofs.Missing.{missing_same, missing_lower, missing_number}
-use Rattle.scope_rules.proofs.Accepted.{checks_at, not_refused, not_not, lacks_join, lacks_end, lacks_take, lacks_finish, lacks_begin, waiting_task, running_task}
-use Rattle.scope_rules.proofs.Openings.{numbered_within, opens_it, forks_it}
+use Rattle.std.proofs.Common.{[], ℕ, ◌*◌, ◌++◌, ◌+◌, ◌<◌, ◌∙◌, ◌∷◌, ◌≡◌, ◌≤◌, Bool, Err, List, None, Ok, Option, Some, ap, arith, cond, count_by, false, is_some, length, refl, slice_get, suc, true, zero}
+use Rattle.scope_rules.specs.{Accepts, BeginClose, Bind, Cancel, Checked, EndClose, Event, Finish, Fork, History.History, Join, Limits, Move, Reject, Start, Tick, Unbind, begin_mark, declared.types.events.Event.TheVariants.Open}
+use Rattle.scope_rules.specs.{earliest, end_mark, finish_mark, followed, forking, forking_of, is_fork, is_open, join_mark, known_scope, known_task, lacks, missing, numbered_at, opening, opening_of, owed, range_with_len, row_check}
+use Rattle.scope_rules.specs.{scope_check, scope_numbers, take_mark, task_check, task_numbers, weight}
+use Rattle.scope_rules.proofs.Words.{sum_by-append}
+use Rattle.scope_rules.proofs.{Accepted.checks_at, Accepted.lacks_begin, Accepted.lacks_end, Accepted.lacks_finish, Accepted.lacks_join, Accepted.lacks_take, Accepted.not_not, Accepted.not_refused, Accepted.running_task}
+use Rattle.scope_rules.proofs.{Accepted.waiting_task, Missing.missing_lower, Missing.missing_number, Missing.missing_same, Openings.forks_it, Openings.numbered_within, Openings.opens_it}
 
 -- the n-th of a range of numbers
 range_at : (a k j : ℕ) → j < k → slice_get (range_with_len a k) j ≡ Some (a + j)

@@ -1,16 +1,7 @@
 -- The own cancel that one event more gives a scope.
-use Rattle.std.proofs.Common.{◌≡◌, ℕ, ◌+◌, cond, Option, Some, None, option_map, [], ◌∷◌, length, refl, ap, ◌∙◌, arith, length-append}
-use Rattle.std.specs.Option.{option_or}
-use Rattle.scope_rules.specs.declared.types.answers.CauseKind.{CauseKind}
-use Rattle.scope_rules.specs.declared.types.answers.CauseKind.TheVariants.{Joiner, Deadline}
-use Rattle.scope_rules.specs.declared.types.events.Event.{Event}
-use Rattle.scope_rules.specs.declared.types.records.Opening.{Opening}
-use Rattle.scope_rules.specs.declared.types.records.OwnCancel.{OwnCancel}
-use Rattle.scope_rules.specs.History.{History, before, followed, opening}
-use Rattle.scope_rules.specs.Cancels.{direct_kind, joiner_fires, overdue, own, own_at}
-use Rattle.scope_rules.proofs.Growing.{own_grows}
-use Rattle.scope_rules.proofs.OneEventMore.{last_event}
-use Rattle.scope_rules.proofs.Pushing.{before_all, before_last}
+use Rattle.std.proofs.Common.{[], ℕ, ◌+◌, ◌∙◌, ◌∷◌, ◌≡◌, None, Option, Some, ap, arith, cond, length, length-append, option_map, refl}
+use Rattle.scope_rules.specs.{CauseKind, Deadline, Event, History.History, Joiner, Opening, OwnCancel, before, direct_kind, followed, joiner_fires, opening, option_or, overdue, own, own_at}
+use Rattle.scope_rules.proofs.{Growing.own_grows, OneEventMore.last_event, Pushing.before_all, Pushing.before_last}
 
 -- how the event, the next of h, cancels the scope by itself
 abbrev pub kind_next : History → Event → ℕ → Option CauseKind

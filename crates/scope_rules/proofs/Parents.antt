@@ -1,20 +1,9 @@
 -- In a legal history a scope's parent has a smaller number.
-use Rattle.std.proofs.Common.{◌≡◌, ℕ, ◌+◌, ◌<◌, ◌≤◌, ◌==◌, ◌&&◌, not, cond, Option, Some, None, option_map, refl, ◌∙◌, arith}
-use Rattle.std.proofs.lemmas.Option.{same_Some}
-use Rattle.std.specs.Option.{option_or}
-use Rattle.scope_rules.specs.declared.types.capacity.Limits.{Limits}
-use Rattle.scope_rules.specs.declared.types.records.Opening.{Opening}
-use Rattle.scope_rules.specs.declared.types.records.Forking.{Forking}
-use Rattle.scope_rules.specs.History.{History, before, scopes, opened_count, opening, forking}
-use Rattle.scope_rules.specs.Scopes.{closed, unclosed_of, innermost, forked_in, surrounding, around, parent}
-use Rattle.scope_rules.specs.Legal.{Legal}
-use Rattle.scope_rules.proofs.Openings.{and_then_some, if_some}
-use Rattle.scope_rules.proofs.Growing.{opening_number}
-use Rattle.scope_rules.proofs.Nesting.{legal_before}
-use Rattle.scope_rules.proofs.Earlier.{opening_since, scope_given}
-use Rattle.scope_rules.proofs.BindingRows.{fork_opened}
-use Rattle.scope_rules.proofs.Inherited.{fork_was_accepted}
-use Rattle.scope_rules.proofs.Searching.{latest_where}
+use Rattle.std.proofs.Common.{ℕ, ◌&&◌, ◌+◌, ◌<◌, ◌==◌, ◌∙◌, ◌≡◌, ◌≤◌, None, Option, Some, arith, cond, not, option_map, refl}
+use Rattle.scope_rules.specs.{Forking, History.History, History.scopes, Legal.Legal, Limits, Opening, around, before, closed, forked_in, forking, innermost, opened_count, opening, option_or, parent, surrounding, unclosed_of}
+use Rattle.scope_rules.proofs.Words.{same_Some}
+use Rattle.scope_rules.proofs.{BindingRows.fork_opened, Earlier.opening_since, Earlier.scope_given, Growing.opening_number, Inherited.fork_was_accepted, Nesting.legal_before, Openings.and_then_some, Openings.if_some}
+use Rattle.scope_rules.proofs.{Searching.latest_where}
 
 -- an actor's innermost scope has a number of those given
 pub innermost_given : (h : History) (a p : ℕ) → innermost h a ≡ Some p → (0 < p) × (p ≤ scopes h)

@@ -1,20 +1,10 @@
 -- What the passed row of each accepted event says, in the words of scopes and tasks.
-use Rattle.std.proofs.Common.{◌≡◌, ℕ, ◌==◌, Bool, true, false, not, cond, Option, Some, None, Ok, is_some, [], ◌∷◌, refl, ap, subst, ◌∙◌, inl, inr, ◌⊎◌}
-use Rattle.std.proofs.lemmas.Bool.{eqb-true}
-use Rattle.std.specs.Option.{option_map_or}
-use Rattle.scope_rules.specs.declared.types.capacity.Limits.{Limits}
-use Rattle.scope_rules.specs.declared.types.events.Event.{Event}
-use Rattle.scope_rules.specs.declared.types.events.Event.TheVariants.{Open, Fork, Reject, Start, Finish, BeginClose, EndClose}
-use Rattle.scope_rules.specs.declared.types.records.Opening.{Opening}
-use Rattle.scope_rules.specs.declared.types.records.Forking.{Forking}
-use Rattle.scope_rules.specs.declared.types.refusals.Refusal.TheVariants.{WrongStage}
-use Rattle.scope_rules.specs.History.{History, opening, opening_of, forking_of}
-use Rattle.scope_rules.specs.Scopes.{closed, closing, innermost, ends}
-use Rattle.scope_rules.specs.Tasks.{stage, is_running, is_waiting, settled, rejects, starts, finishes}
-use Rattle.scope_rules.specs.Checks.{checks, refuse_if, task_check, actor_check, owns, owner_check, is_innermost, known_actor}
-use Rattle.scope_rules.specs.Table.{row_check}
-use Rattle.scope_rules.specs.Legal.{Accepts}
-use Rattle.scope_rules.proofs.Accepted.{checks_at, not_refused, not_not}
+use Rattle.std.proofs.Common.{[], ℕ, ◌==◌, ◌∙◌, ◌∷◌, ◌≡◌, ◌⊎◌, Bool, None, Ok, Option, Some, ap, cond, false, inl, inr, is_some, not, refl, subst, true}
+use Rattle.scope_rules.specs.{Accepts, BeginClose, EndClose, Event, Finish, Fork, Forking, History.History, Limits, Opening, Reject, Start, Tasks.settled, WrongStage, actor_check, checks, closed, closing}
+use Rattle.scope_rules.specs.{declared.types.events.Event.TheVariants.Open, ends, finishes, forking_of, innermost, is_innermost, is_running, is_waiting, known_actor, opening, opening_of, option_map_or, owner_check, owns}
+use Rattle.scope_rules.specs.{refuse_if, rejects, row_check, stage, starts, task_check}
+use Rattle.scope_rules.proofs.Words.{eqb-true}
+use Rattle.scope_rules.proofs.Accepted.{checks_at, not_not, not_refused}
 
 -- the actor is main, or a task that runs
 abbrev pub IsActor : History → ℕ → Type 0

@@ -1,11 +1,7 @@
 -- Prefixes of lists and of histories, and how what is computed of them grows by one element.
-use Rattle.std.proofs.Common.{◌≡◌, ℕ, zero, suc, ◌+◌, ◌≤◌, Bool, true, false, Option, Some, None, List, [], ◌∷◌, ◌++◌, length, take, slice_get, count_by, cond, arith, refl, ap, sym, ◌∙◌, add-one, ◌<◌}
-use Rattle.std.proofs.lemmas.List.{length-take, take_all}
-use Rattle.std.proofs.lemmas.List.Sums.{sum_by-take-le, sum_by-append}
-use Rattle.std.specs.Option.{option_or}
-use Rattle.std.specs.List.{sum_by}
-use Rattle.scope_rules.specs.Search.{last_of}
-use Rattle.scope_rules.specs.History.{History, before, HasSmallNumbers, is_open, is_fork}
+use Rattle.std.proofs.Common.{[], ℕ, ◌++◌, ◌+◌, ◌<◌, ◌∙◌, ◌∷◌, ◌≡◌, ◌≤◌, Bool, List, None, Option, Some, add-one, ap, arith, cond, count_by, false, length, refl, slice_get, suc, sym, take, true, zero}
+use Rattle.scope_rules.specs.{HasSmallNumbers, History.History, before, is_fork, is_open, last_of, option_or, sum_by}
+use Rattle.scope_rules.proofs.Words.{length-take, sum_by-append, sum_by-take-le, take_all}
 
 pub count_by-take-le : {X : Type 0} (p : X → Bool) (xs : List X) (i : ℕ) → count_by p (take i xs) ≤ count_by p xs
 count_by-take-le p xs i = sum_by-take-le (λ x. cond (p x) 1 0) xs i

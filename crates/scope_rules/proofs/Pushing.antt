@@ -1,28 +1,10 @@
 -- A legal history with an accepted event more is legal, and stays within its limits.
-use Rattle.std.proofs.Common.{◌≡◌, ℕ, zero, suc, ◌+◌, ◌-◌, ◌<◌, ◌≤◌, ◌==◌, Bool, true, false, cond, Some, Ok, List, [], ◌∷◌, ◌++◌, length, slice_get, fold, refl, ap, sym, subst, ◌∙◌, arith, inl, inr, ◌⊎◌}
-use Rattle.std.proofs.lemmas.Bool.{leb-false, ltb-false}
-use Rattle.std.proofs.lemmas.List.{take_all, take-append-le}
-use Rattle.std.proofs.lemmas.List.Sums.{sum_by-append}
-use Rattle.std.specs.List.{sum_by}
-use Rattle.scope_rules.specs.declared.types.capacity.Limits.{Limits}
-use Rattle.scope_rules.specs.declared.types.capacity.TheConstants.{OPEN_LOAD, FORK_LOAD, STEP_LOAD, GREATEST_NUMBER}
-use Rattle.scope_rules.specs.declared.types.values.Label.{Label}
-use Rattle.scope_rules.specs.declared.types.joiners.Policy.{Policy}
-use Rattle.scope_rules.specs.declared.types.events.Options.{Options}
-use Rattle.scope_rules.specs.declared.types.events.Binding.{Binding}
-use Rattle.scope_rules.specs.declared.types.events.Event.{Event}
-use Rattle.scope_rules.specs.declared.types.events.Event.TheVariants.{Open, Fork, Reject, Start, Finish, Cancel, Move, Tick, Bind, Unbind, Join, BeginClose, EndClose}
-use Rattle.scope_rules.specs.History.{History, before, followed, scopes, tasks, opened_count, forked_count, is_open, is_fork}
-use Rattle.scope_rules.specs.Cancels.{is_cancelled}
-use Rattle.scope_rules.specs.Load.{load, weight}
-use Rattle.scope_rules.specs.Checks.{Checked, refuse_full}
-use Rattle.scope_rules.specs.Table.{check_of, row_check}
-use Rattle.scope_rules.specs.Legal.{Accepts, Legal, IsWithin}
-use Rattle.scope_rules.specs.Bindings.{stacked, first_stack, stack}
-use Rattle.scope_rules.specs.StackSteps.{height_after}
-use Rattle.scope_rules.proofs.Stacks.{length_stacked, cond_bound}
-use Rattle.scope_rules.proofs.Accepted.{checks_at, not_refused, or_left, or_right}
-use Rattle.scope_rules.proofs.Owing.{count_push}
+use Rattle.std.proofs.Common.{[], ℕ, ◌++◌, ◌+◌, ◌-◌, ◌<◌, ◌==◌, ◌∙◌, ◌∷◌, ◌≡◌, ◌≤◌, ◌⊎◌, Bool, List, Ok, Some, ap, arith, cond, false, fold, inl, inr, length, refl, slice_get, subst, suc, sym, true, zero}
+use Rattle.scope_rules.specs.{Accepts, BeginClose, Bind, Binding, Cancel, Checked, EndClose, Event, FORK_LOAD, Finish, Fork, GREATEST_NUMBER, History.History, History.scopes, History.tasks, IsWithin, Join, Label, Legal.Legal}
+use Rattle.scope_rules.specs.{Limits, Move, OPEN_LOAD, Options, Policy, Reject, STEP_LOAD, Start, Tick, Unbind, before, check_of, declared.types.events.Event.TheVariants.Open, first_stack, followed, forked_count, height_after}
+use Rattle.scope_rules.specs.{is_cancelled, is_fork, is_open, load, opened_count, refuse_full, row_check, stack, stacked, sum_by, weight}
+use Rattle.scope_rules.proofs.Words.{leb-false, ltb-false, sum_by-append, take-append-le, take_all}
+use Rattle.scope_rules.proofs.{Accepted.checks_at, Accepted.not_refused, Accepted.or_left, Accepted.or_right, Owing.count_push, Stacks.cond_bound, Stacks.length_stacked}
 
 pub entry_of_push : (es : List Event) (e x : Event) (i : ℕ) → slice_get (es ++ e ∷ []) i ≡ Some x → ((i < length es) × (slice_get es i ≡ Some x)) ⊎ ((i ≡ length es) × (x ≡ e))
 entry_of_push [] e x zero at = inr (refl, cc)

@@ -1,13 +1,7 @@
 -- What may be read was joined.
-use Rattle.std.proofs.Common.{◌≡◌, ℕ, true, false, Option, Some, None, Ok, refl}
-use Rattle.std.specs.Option.{option_map_or}
-use Rattle.scope_rules.specs.declared.types.records.Forking.{Forking}
-use Rattle.scope_rules.specs.History.{History, forking}
-use Rattle.scope_rules.specs.Scopes.{joined}
-use Rattle.scope_rules.specs.Table.{reading_row, reading_check}
-use Rattle.scope_rules.specs.Checks.{refusal_of}
-use Rattle.scope_rules.specs.OutcomeLaws.{WasJoined}
-use Rattle.scope_rules.proofs.Accepted.{checks_at, not_refused, not_not}
+use Rattle.std.proofs.Common.{ℕ, ◌≡◌, None, Ok, Option, Some, false, refl, true}
+use Rattle.scope_rules.specs.{Forking, History.History, Scopes.joined, WasJoined, forking, option_map_or, reading_check, reading_row, refusal_of}
+use Rattle.scope_rules.proofs.Accepted.{checks_at, not_not, not_refused}
 
 was_joined : (h : History) (k : ℕ) (o : Option Forking) → forking h k ≡ o → option_map_or (λ f. joined h f.scope) o false ≡ true → WasJoined h k
 was_joined h k None is told = absurd cc

@@ -1,19 +1,8 @@
 -- Lists of pairs that test as the same are one.
-use Rattle.std.proofs.Common.{◌≡◌, ℕ, zero, suc, ◌<◌, ◌≤◌, ◌⊎◌, ◌==◌, ◌||◌, Bool, true, false, not, Some, List, [], ◌∷◌, length, slice_get, refl, ap, sym, ◌∙◌, arith, inl, inr}
-use Rattle.std.proofs.lemmas.Bool.{eqb-true, eq-eqb, and_parts, and_from, not-true, not-false, not_from_true, cases_lt}
-use Rattle.std.proofs.lemmas.Bool.Decides.{Decides-int_eq}
-use Rattle.std.specs.Bool.{Decides}
-use Rattle.std.specs.Cmp.Lexicographic.{bytes_decides}
-use Rattle.scope_rules.specs.declared.types.names.Name.{Name}
-use Rattle.scope_rules.specs.declared.types.values.Value.{Value}
-use Rattle.scope_rules.specs.declared.types.values.Value.TheVariants.{Num, Text}
-use Rattle.scope_rules.specs.declared.types.events.Binding.{Binding}
-use Rattle.scope_rules.specs.Names.{text_of, same_name}
-use Rattle.scope_rules.specs.Values.{same_value}
-use Rattle.scope_rules.specs.Search.{some_below}
-use Rattle.scope_rules.specs.Bindings.{same_pair, differ_at, same_pairs}
-use Rattle.scope_rules.proofs.NameLemmas.{same_text}
-use Rattle.scope_rules.proofs.Accepted.{or_left, or_right}
+use Rattle.std.proofs.Common.{[], ℕ, ◌<◌, ◌==◌, ◌||◌, ◌∙◌, ◌∷◌, ◌≡◌, ◌≤◌, ◌⊎◌, Bool, List, Some, ap, arith, false, inl, inr, length, not, refl, slice_get, suc, sym, true, zero}
+use Rattle.scope_rules.specs.{Binding, Decides, Name, Num, Text, Value, bytes_decides, differ_at, same_name, same_pair, same_pairs, same_value, some_below, text_of}
+use Rattle.scope_rules.proofs.Words.{Decides-int_eq, and_from, and_parts, cases_lt, eq-eqb, eqb-true, not-false, not-true, not_from_true}
+use Rattle.scope_rules.proofs.{Accepted.or_left, Accepted.or_right, NameLemmas.same_text}
 
 -- names that test as the same are one
 pub same_name_tells : (a b : Name) → Decides (same_name a b) (a ≡ b)

@@ -1,7 +1,6 @@
 -- How searches grow.
-use Rattle.std.proofs.Common.{◌≡◌, ℕ, zero, suc, ◌+◌, ◌<◌, ◌||◌, Bool, Option, Some, None, refl, ◌∙◌, arith, add-one, zero-add, suc-add, ◌-◌, ap}
-use Rattle.std.specs.Option.{option_or}
-use Rattle.scope_rules.specs.Search.{earliest, latest, some_below}
+use Rattle.std.proofs.Common.{ℕ, ◌+◌, ◌-◌, ◌<◌, ◌||◌, ◌∙◌, ◌≡◌, Bool, None, Option, Some, add-one, ap, arith, refl, suc, suc-add, zero, zero-add}
+use Rattle.scope_rules.specs.{earliest, latest, option_or, some_below}
 
 -- nothing was found so far, and nothing here
 pub earliest_none_step : {A : Type 0} (f : ℕ → Option A) (i : ℕ) → earliest f i ≡ None → f i ≡ None → earliest f (i + 1) ≡ None

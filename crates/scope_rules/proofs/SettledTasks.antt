@@ -1,12 +1,7 @@
 -- A scope is settled if each of its tasks is.
-use Rattle.std.proofs.Common.{◌≡◌, ℕ, zero, suc, ◌+◌, ◌<◌, ◌==◌, ◌&&◌, Bool, true, false, not, Option, Some, None, List, [], ◌∷◌, refl, ap, sym, ◌∙◌, arith}
-use Rattle.std.proofs.lemmas.Bool.{eq-eqb, eqb-true, or_parts, or_from, not-true}
-use Rattle.std.specs.Option.{option_map_or}
-use Rattle.std.specs.List.{list_any, range_with_len}
-use Rattle.scope_rules.specs.declared.types.records.Forking.{Forking}
-use Rattle.scope_rules.specs.History.{History, forked_count, forking, task_numbers}
-use Rattle.scope_rules.specs.Completions.{is_task_of}
-use Rattle.scope_rules.specs.Tasks.{stage, is_settled, is_unsettled, settled}
+use Rattle.std.proofs.Common.{[], ℕ, ◌&&◌, ◌+◌, ◌<◌, ◌==◌, ◌∙◌, ◌∷◌, ◌≡◌, Bool, List, None, Option, Some, ap, arith, false, not, refl, suc, sym, true, zero}
+use Rattle.scope_rules.specs.{Forking, History.History, Tasks.settled, forked_count, forking, is_settled, is_task_of, is_unsettled, list_any, option_map_or, range_with_len, stage, task_numbers}
+use Rattle.scope_rules.proofs.Words.{eq-eqb, eqb-true, not-true, or_from, or_parts}
 use Rattle.scope_rules.proofs.Forkings.{forked_after}
 
 -- if the test holds of none of the numbers, it doesn't of each

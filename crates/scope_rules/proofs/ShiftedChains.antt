@@ -1,9 +1,7 @@
 -- A tree that numbers its scopes from 1, if others were numbered before them: chains, cancels and
 -- deadlines are the same but for the numbers.
-use Rattle.std.proofs.Common.{◌≡◌, ℕ, suc, zero, ◌+◌, ◌≤◌, Bool, true, false, cond, Option, Some, None, option_map, is_some, nat_le, List, [], ◌∷◌, map, refl, ap, sym, ◌∙◌, arith}
-use Rattle.scope_rules.specs.declared.types.answers.Effective.TheVariants.{Past}
-use Rattle.scope_rules.specs.declared.types.records.FirstCancel.{FirstCancel}
-use Rattle.scope_rules.specs.Chains.{IsInward, shifted, onward, chain_by, nearer, earliest_on, first_cancel_by, least_on, at_moment, effective_by}
+use Rattle.std.proofs.Common.{[], ℕ, ◌+◌, ◌∙◌, ◌∷◌, ◌≡◌, ◌≤◌, Bool, List, None, Option, Some, ap, arith, cond, false, is_some, map, nat_le, option_map, refl, suc, sym, true, zero}
+use Rattle.scope_rules.specs.{FirstCancel, IsInward, Past, at_moment, chain_by, earliest_on, effective_by, first_cancel_by, least_on, nearer, onward, shifted}
 use Rattle.scope_rules.proofs.ChainLaws.{chain_law}
 
 either_shifted : (b : ℕ) (test : Bool) (x y : FirstCancel) → cond test (Some (shifted b x)) (Some (shifted b y)) ≡ option_map (shifted b) (cond test (Some x) (Some y))

@@ -1,15 +1,8 @@
 -- An actor's own pairs, and how many they are, after one event more.
-use Rattle.std.proofs.Common.{◌≡◌, ◌≢◌, ℕ, ◌+◌, ◌-◌, ◌<◌, ◌≤◌, ◌==◌, Bool, true, false, cond, Some, List, [], ◌∷◌, ◌++◌, length, take, slice_get, refl, ap, sym, ◌∙◌, arith, length-append}
-use Rattle.std.proofs.lemmas.Bool.{eqb-true, eq-eqb, ne_eqb}
-use Rattle.std.proofs.lemmas.List.{length-take, take-take, take-append-le}
-use Rattle.scope_rules.specs.declared.types.events.Binding.{Binding}
-use Rattle.scope_rules.specs.declared.types.events.Event.{Event}
-use Rattle.scope_rules.specs.declared.types.events.Event.TheVariants.{Bind, Unbind}
-use Rattle.scope_rules.specs.History.{History, before, followed}
-use Rattle.scope_rules.specs.Bindings.{stacked, stack, without_last}
-use Rattle.scope_rules.specs.StackSteps.{height_after}
-use Rattle.scope_rules.proofs.Pushing.{before_all, before_last}
-use Rattle.scope_rules.proofs.Stacks.{stack_more, length_stacked}
+use Rattle.std.proofs.Common.{[], ℕ, ◌++◌, ◌+◌, ◌-◌, ◌<◌, ◌==◌, ◌∙◌, ◌∷◌, ◌≡◌, ◌≢◌, ◌≤◌, Bool, List, Some, ap, arith, cond, false, length, length-append, refl, slice_get, sym, take, true}
+use Rattle.scope_rules.specs.{Bind, Binding, Event, History.History, Unbind, before, followed, height_after, stack, stacked, without_last}
+use Rattle.scope_rules.proofs.Words.{eq-eqb, eqb-true, length-take, ne_eqb, take-append-le, take-take}
+use Rattle.scope_rules.proofs.{Pushing.before_all, Pushing.before_last, Stacks.length_stacked, Stacks.stack_more}
 
 get_last : {A : Type 0} (xs : List A) (x : A) → slice_get (xs ++ x ∷ []) (length xs) ≡ Some x
 get_last [] x = refl

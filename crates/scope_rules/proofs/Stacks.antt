@@ -1,20 +1,8 @@
 -- How an actor's own pairs change by one event.
-use Rattle.std.proofs.Common.{◌≡◌, ◌≢◌, ℕ, zero, suc, ◌+◌, ◌-◌, ◌<◌, ◌≤◌, ◌==◌, Bool, true, false, cond, Option, Some, None, List, [], ◌∷◌, ◌++◌, length, take, slice_get, nat_le, fold, refl, ap, sym, ◌∙◌, arith, length-append}
-use Rattle.std.proofs.lemmas.List.{length-take, take_all}
-use Rattle.std.proofs.lemmas.Bool.{eqb-true, eqb-false}
-use borrow.Author.Tests.{leb-true, leb-false}
-use Rattle.std.proofs.lemmas.Option.{slice_get_past}
-use Rattle.std.specs.Option.{option_or}
-use Rattle.std.specs.List.{cons_option}
-use Rattle.scope_rules.specs.declared.types.names.Name.{Name}
-use Rattle.scope_rules.specs.declared.types.values.Value.{Value}
-use Rattle.scope_rules.specs.declared.types.events.Binding.{Binding}
-use Rattle.scope_rules.specs.declared.types.events.Event.{Event}
-use Rattle.scope_rules.specs.declared.types.events.Event.TheVariants.{Bind, Unbind}
-use Rattle.scope_rules.specs.History.{History, before}
-use Rattle.scope_rules.specs.Bindings.{stacked, first_stack, stack, without_last, bound_to, value_under}
-use Rattle.scope_rules.specs.StackSteps.{height_after, pair_after}
-use Rattle.scope_rules.proofs.Prefixes.{take_at, option_or-none, option_or-assoc}
+use Rattle.std.proofs.Common.{[], ℕ, ◌++◌, ◌+◌, ◌-◌, ◌<◌, ◌==◌, ◌∙◌, ◌∷◌, ◌≡◌, ◌≢◌, ◌≤◌, Bool, List, None, Option, Some, ap, arith, cond, false, fold, length, length-append, nat_le, refl, slice_get, suc, sym, take, true, zero}
+use Rattle.scope_rules.specs.{Bind, Binding, Event, History.History, Name, Unbind, Value, before, bound_to, cons_option, first_stack, height_after, option_or, pair_after, stack, stacked, value_under, without_last}
+use Rattle.scope_rules.proofs.Words.{eqb-false, eqb-true, leb-false, leb-true, length-take, slice_get_past, take_all}
+use Rattle.scope_rules.proofs.Prefixes.{option_or-assoc, option_or-none, take_at}
 
 fold-push : {A B : Type 0} (f : B → A → B) (z : B) (xs : List A) (x : A) → fold f z (xs ++ x ∷ []) ≡ f (fold f z xs) x
 fold-push f z [] x = refl

@@ -1,25 +1,13 @@
 -- The stage of a task after each kind of accepted event.
-use Rattle.std.proofs.Common.{◌≡◌, ◌≢◌, ℕ, ◌+◌, ◌==◌, ◌||◌, Bool, true, false, cond, Option, Some, None, length, refl, ap, sym, ◌∙◌, [], arith, inl, inr}
-use Rattle.std.proofs.lemmas.Bool.{eq-eqb, false_from_ne_true, or_cases, or_from, both_ways, cond-true}
-use Rattle.std.specs.Option.{option_map_or, option_or}
-use Rattle.scope_rules.specs.declared.types.capacity.Limits.{Limits}
-use Rattle.scope_rules.specs.declared.types.events.Event.{Event}
-use Rattle.scope_rules.specs.declared.types.events.Event.TheVariants.{Fork, Reject, Start, Finish}
-use Rattle.scope_rules.specs.declared.types.answers.Stage.{Stage}
-use Rattle.scope_rules.specs.declared.types.answers.Stage.TheVariants.{Never, Waiting, Running, Finished}
-use Rattle.scope_rules.specs.declared.types.records.Forking.{Forking}
-use Rattle.scope_rules.specs.Origin.{Origin}
-use Rattle.scope_rules.specs.History.{History, followed, tasks, forking, is_fork, forking_of}
-use Rattle.scope_rules.specs.Cancels.{cancelled_before, is_cancelled}
-use Rattle.scope_rules.specs.Tasks.{rejects, rejected, starts, started, finishes, finished, stage_of, stage, is_waiting, is_running}
-use Rattle.scope_rules.specs.Legal.{Accepts, Legal}
-use Rattle.scope_rules.proofs.Growing.{forking_stays}
-use Rattle.scope_rules.proofs.Nesting.{IsOpened}
-use Rattle.scope_rules.proofs.PassedRows.{fork_passed, start_passed, reject_passed, finish_passed, starter_passed, rejecter_passed, finisher_passed}
-use Rattle.scope_rules.proofs.OneEventMore.{along, rejected_grows, started_grows, finished_grows, forking_grows, forking_same, forking_other}
-use Rattle.scope_rules.proofs.ChainsGrow.{cancelled_before_stays, cancelled_by_now}
-use Rattle.scope_rules.proofs.Forkings.{IsForked, forked_after}
-use Rattle.scope_rules.proofs.Stages.{staged, same_staged, stage_is, stage_grows, waiting_forked, running_forked}
+use Rattle.std.proofs.Common.{[], ℕ, ◌+◌, ◌==◌, ◌||◌, ◌∙◌, ◌≡◌, ◌≢◌, Bool, None, Option, Some, ap, arith, cond, false, inl, inr, length, refl, sym, true}
+use Rattle.scope_rules.specs.{Accepts, Event, Finish, Finished, Fork, Forking, History.History, History.tasks, Legal.Legal, Limits, Origin.Origin, Reject, Running, Stage, Start, Waiting, cancelled_before}
+use Rattle.scope_rules.specs.{declared.types.answers.Stage.TheVariants.Never, finished, finishes, followed, forking, forking_of, is_cancelled, is_fork, is_running, is_waiting, option_map_or, option_or, rejected, rejects, stage}
+use Rattle.scope_rules.specs.{stage_of, started, starts}
+use Rattle.scope_rules.proofs.Words.{both_ways, cond-true, eq-eqb, false_from_ne_true, or_cases, or_from}
+use Rattle.scope_rules.proofs.{ChainsGrow.cancelled_before_stays, ChainsGrow.cancelled_by_now, Forkings.IsForked, Forkings.forked_after, Growing.forking_stays, Nesting.IsOpened, OneEventMore.along, OneEventMore.finished_grows}
+use Rattle.scope_rules.proofs.{OneEventMore.forking_grows, OneEventMore.forking_other, OneEventMore.forking_same, OneEventMore.rejected_grows, OneEventMore.started_grows, PassedRows.finish_passed, PassedRows.finisher_passed}
+use Rattle.scope_rules.proofs.{PassedRows.fork_passed, PassedRows.reject_passed, PassedRows.rejecter_passed, PassedRows.start_passed, PassedRows.starter_passed, Stages.running_forked, Stages.same_staged, Stages.stage_grows}
+use Rattle.scope_rules.proofs.{Stages.stage_is, Stages.staged, Stages.waiting_forked}
 
 or_nothing : (b c : Bool) → c ≡ false → (b || c) ≡ b
 or_nothing true c none = refl

@@ -1,23 +1,10 @@
 -- The stage of a task, and how it goes on.
-use Rattle.std.proofs.Common.{◌≡◌, ℕ, ◌||◌, Bool, true, false, cond, Option, Some, None, refl, ap, ◌∙◌, arith}
-use Rattle.std.proofs.lemmas.Bool.{false_from_ne_true, both_ways}
-use Rattle.std.specs.Option.{option_map_or}
-use Rattle.scope_rules.specs.declared.types.capacity.Limits.{Limits}
-use Rattle.scope_rules.specs.declared.types.events.Event.{Event}
-use Rattle.scope_rules.specs.declared.types.answers.Stage.{Stage}
-use Rattle.scope_rules.specs.declared.types.answers.Stage.TheVariants.{Never, Waiting, Running, Finished}
-use Rattle.scope_rules.specs.declared.types.records.Forking.{Forking}
-use Rattle.scope_rules.specs.History.{History, followed, forking}
-use Rattle.scope_rules.specs.Cancels.{cancelled_before}
-use Rattle.scope_rules.specs.Tasks.{rejects, rejected, starts, started, finishes, finished, stage_of, stage, is_waiting, is_running, is_settled}
-use Rattle.scope_rules.specs.Legal.{Accepts, Legal}
-use Rattle.scope_rules.proofs.Growing.{forking_stays}
-use Rattle.scope_rules.proofs.PassedRows.{rejecter_passed}
-use Rattle.scope_rules.proofs.OneEventMore.{rejected_grows, started_grows, finished_grows}
-use Rattle.scope_rules.proofs.ChainsGrow.{cancelled_before_stays}
-use Rattle.scope_rules.proofs.Forkings.{IsForked}
-use Rattle.scope_rules.proofs.Earlier.{forking_within}
-use Rattle.scope_rules.proofs.Nesting.{forked_opened}
+use Rattle.std.proofs.Common.{ℕ, ◌||◌, ◌∙◌, ◌≡◌, Bool, None, Option, Some, ap, arith, cond, false, refl, true}
+use Rattle.scope_rules.specs.{Accepts, Event, Finished, Forking, History.History, Legal.Legal, Limits, Running, Stage, Waiting, cancelled_before, declared.types.answers.Stage.TheVariants.Never, finished, finishes, followed}
+use Rattle.scope_rules.specs.{forking, is_running, is_settled, is_waiting, option_map_or, rejected, rejects, stage, stage_of, started, starts}
+use Rattle.scope_rules.proofs.Words.{both_ways, false_from_ne_true}
+use Rattle.scope_rules.proofs.{ChainsGrow.cancelled_before_stays, Earlier.forking_within, Forkings.IsForked, Growing.forking_stays, Nesting.forked_opened, OneEventMore.finished_grows, OneEventMore.rejected_grows}
+use Rattle.scope_rules.proofs.{OneEventMore.started_grows, PassedRows.rejecter_passed}
 
 -- the stage by whether the task was forked under a cancel, rejected, finished and started
 abbrev pub staged : Bool → Bool → Bool → Bool → Stage

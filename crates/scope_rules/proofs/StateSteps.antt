@@ -1,28 +1,10 @@
 -- What one event more makes of the ends and states of tasks.
-use Rattle.std.proofs.Common.{◌≡◌, ℕ, zero, suc, ◌<◌, ◌≤◌, ◌==◌, Bool, true, false, cond, Option, Some, None, List, [], ◌∷◌, ◌++◌, length, slice_get, refl, ap, sym, ◌∙◌, arith, length-append}
-use Rattle.std.proofs.lemmas.Bool.{eq-eqb}
-use Rattle.std.specs.Option.{option_and_then, option_or, option_map_or}
-use Rattle.std.specs.List.{list_any}
-use Rattle.scope_rules.specs.declared.types.capacity.Limits.{Limits}
-use Rattle.scope_rules.specs.declared.types.answers.State.TheVariants.{Unavailable}
-use Rattle.scope_rules.specs.declared.types.events.Event.{Event}
-use Rattle.scope_rules.specs.declared.types.events.Event.TheVariants.{Finish}
-use Rattle.scope_rules.specs.declared.types.records.Ending.{Ending}
-use Rattle.scope_rules.specs.declared.types.records.Forking.{Forking}
-use Rattle.scope_rules.specs.Ends.{EndValue}
-use Rattle.scope_rules.specs.Search.{earliest}
-use Rattle.scope_rules.specs.History.{History, followed, forking}
-use Rattle.scope_rules.specs.Cancels.{is_cancelled}
-use Rattle.scope_rules.specs.Tasks.{finishes, finished, ending, ending_at, ending_of, state, state_of, state_by_end}
-use Rattle.scope_rules.specs.Legal.{Legal}
-use Rattle.scope_rules.proofs.Accepted.{or_left, or_right}
-use Rattle.scope_rules.proofs.ChainsGrow.{cancelled_before_stays, cancelled_by_now}
-use Rattle.scope_rules.proofs.Growing.{forking_stays}
-use Rattle.scope_rules.proofs.Nesting.{forked_opened}
-use Rattle.scope_rules.proofs.OneEventMore.{last_event}
-use Rattle.scope_rules.proofs.Openings.{and_then_some}
-use Rattle.scope_rules.proofs.Prefixes.{get_push}
-use Rattle.scope_rules.proofs.Searching.{earliest_same, earliest_where}
+use Rattle.std.proofs.Common.{[], ℕ, ◌++◌, ◌<◌, ◌==◌, ◌∙◌, ◌∷◌, ◌≡◌, ◌≤◌, Bool, List, None, Option, Some, ap, arith, cond, false, length, length-append, refl, slice_get, suc, sym, true, zero}
+use Rattle.scope_rules.specs.{EndValue, Ending, Event, Finish, Forking, History.History, Legal.Legal, Limits, declared.types.answers.State.TheVariants.Unavailable, earliest, ending, ending_at, ending_of, finished, finishes}
+use Rattle.scope_rules.specs.{followed, forking, is_cancelled, list_any, option_and_then, option_map_or, option_or, state, state_by_end, state_of}
+use Rattle.scope_rules.proofs.Words.{eq-eqb}
+use Rattle.scope_rules.proofs.{Accepted.or_left, Accepted.or_right, ChainsGrow.cancelled_before_stays, ChainsGrow.cancelled_by_now, Growing.forking_stays, Nesting.forked_opened, OneEventMore.last_event, Openings.and_then_some}
+use Rattle.scope_rules.proofs.{Prefixes.get_push, Searching.earliest_same, Searching.earliest_where}
 
 ending_earlier : (h : History) (e : Event) (k i : ℕ) → i < length h.events → ending_at (followed h e) k i ≡ ending_at h k i
 ending_earlier h e k i within = ap (option_and_then (ending_of k i)) (get_push h.events e i within)

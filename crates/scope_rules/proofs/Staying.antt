@@ -1,26 +1,10 @@
 -- A cancelled scope of a legal history stays cancelled, with its cause.
-use Rattle.std.proofs.Common.{◌≡◌, ℕ, zero, suc, ◌+◌, ◌<◌, ◌≤◌, Bool, true, false, cond, Option, Some, None, option_map, is_some, List, [], ◌∷◌, length, slice_get, nat_le, refl, ap, sym, subst, ◌∙◌, arith, inl, inr, ◌⊎◌}
-use Rattle.std.proofs.lemmas.Bool.{leb-true, le-leb}
-use Rattle.std.specs.Option.{option_and_then, option_or}
-use Rattle.scope_rules.specs.declared.types.capacity.Limits.{Limits}
-use Rattle.scope_rules.specs.declared.types.answers.Cause.{Cause}
-use Rattle.scope_rules.specs.declared.types.answers.CauseKind.{CauseKind}
-use Rattle.scope_rules.specs.declared.types.events.Event.{Event}
-use Rattle.scope_rules.specs.declared.types.events.Event.TheVariants.{Tick}
-use Rattle.scope_rules.specs.declared.types.records.OwnCancel.{OwnCancel}
-use Rattle.scope_rules.specs.declared.types.records.Opening.{Opening}
-use Rattle.scope_rules.specs.declared.types.records.FirstCancel.{FirstCancel}
-use Rattle.scope_rules.specs.History.{History, before, followed, opening}
-use Rattle.scope_rules.specs.Scopes.{surrounding, outer}
-use Rattle.scope_rules.specs.Cancels.{own, own_at, kind_by, own_cancel, first_cancel, cause}
-use Rattle.scope_rules.specs.Chains.{onward, outwards, chain_by, nearer, earliest_on, first_cancel_by}
-use Rattle.scope_rules.specs.Legal.{Legal}
-use Rattle.scope_rules.proofs.Searching.{earliest_where}
-use Rattle.scope_rules.proofs.Openings.{and_then_some, if_some}
-use Rattle.scope_rules.proofs.Pushing.{before_push}
-use Rattle.scope_rules.proofs.Growing.{own_grows, opening_stays}
-use Rattle.scope_rules.proofs.Nesting.{IsOpened, outer_opened, opened_before, opened_some, same_onward}
-use Rattle.scope_rules.proofs.Earlier.{opening_within}
+use Rattle.std.proofs.Common.{[], ℕ, ◌+◌, ◌<◌, ◌∙◌, ◌∷◌, ◌≡◌, ◌≤◌, ◌⊎◌, Bool, List, None, Option, Some, ap, arith, cond, false, inl, inr, is_some, length, nat_le, option_map, refl, slice_get, subst, suc, sym, true, zero}
+use Rattle.scope_rules.specs.{Cause, CauseKind, Event, FirstCancel, History.History, Legal.Legal, Limits, Opening, OwnCancel, Tick, before, cause, chain_by, earliest_on, first_cancel, first_cancel_by, followed, kind_by, nearer}
+use Rattle.scope_rules.specs.{onward, opening, option_and_then, option_or, outer, outwards, own, own_at, own_cancel, surrounding}
+use Rattle.scope_rules.proofs.Words.{le-leb, leb-true}
+use Rattle.scope_rules.proofs.{Earlier.opening_within, Growing.opening_stays, Growing.own_grows, Nesting.IsOpened, Nesting.opened_before, Nesting.opened_some, Nesting.outer_opened, Nesting.same_onward, Openings.and_then_some}
+use Rattle.scope_rules.proofs.{Openings.if_some, Pushing.before_push, Searching.earliest_where}
 
 -- an own cancel, as a first cancel
 abbrev pub cancel_of : ℕ → OwnCancel → FirstCancel

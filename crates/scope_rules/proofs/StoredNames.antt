@@ -1,13 +1,7 @@
 -- How the bytes of a name lie: by the test, and by its parts.
-use Rattle.std.proofs.Common.{◌≡◌, ℕ, ◌-◌, ◌≤◌, ◌++◌, true, false, List, length, take, drop, replicate, ap, sym, ◌∙◌, subst, arith, length-append}
-use Rattle.std.proofs.lemmas.List.{length-replicate, length-take, take-append-drop}
-use Rattle.std.proofs.lemmas.Grind.{common_steps}
-use Rattle.std.proofs.lemmas.Bool.Decides.{nat_tests}
-use Rattle.std.proofs.lemmas.Slice.Eq.{bytes_eq-Decides}
-use Rattle.std.proofs.Math.Seq.{take-append_seam, drop-append_seam}
-use Rattle.std.specs.Cmp.Derive.{both_true}
-use Rattle.std.specs.Str.{bytes_eq}
-use Rattle.scope_rules.specs.NameText.{filled_up, is_name, is_stored}
+use Rattle.std.proofs.Common.{ℕ, ◌++◌, ◌-◌, ◌∙◌, ◌≡◌, ◌≤◌, List, ap, arith, drop, false, length, length-append, replicate, subst, sym, take, true}
+use Rattle.scope_rules.specs.{both_true, bytes_eq, filled_up, is_name, is_stored}
+use Rattle.scope_rules.proofs.Words.{bytes_eq-Decides, common_steps, drop-append_seam, length-replicate, length-take, nat_tests, take-append-drop, take-append_seam}
 
 -- the text, then zeros
 pub record StoredText (len : ℕ) (bytes : List ℕ) : Type 0 where

@@ -1,12 +1,8 @@
 -- Whether a scope has tasks, and whether it is settled, by how many tasks are at each stage.
-use Rattle.std.proofs.Common.{◌≡◌, ℕ, ◌+◌, ◌&&◌, ◌||◌, Bool, true, false, not, cond, nat_lt, List, [], ◌∷◌, count_by, refl, ap, sym, ◌∙◌, arith}
-use Rattle.std.proofs.lemmas.Bool.{lt-ltb}
-use Rattle.std.specs.List.{list_any}
-use Rattle.scope_rules.specs.declared.types.answers.Stage.{Stage}
-use Rattle.scope_rules.specs.declared.types.answers.Stage.TheVariants.{Never, Waiting, Running, Finished}
-use Rattle.scope_rules.specs.History.{History, task_numbers}
-use Rattle.scope_rules.specs.Completions.{is_task_of}
-use Rattle.scope_rules.specs.Tasks.{stage, is_at, is_stage, is_settled, is_unsettled, has_tasks, settled, counts}
+use Rattle.std.proofs.Common.{[], ℕ, ◌&&◌, ◌+◌, ◌||◌, ◌∙◌, ◌∷◌, ◌≡◌, Bool, List, ap, arith, cond, count_by, false, nat_lt, not, refl, sym, true}
+use Rattle.scope_rules.specs.{Finished, History.History, Running, Stage, Tasks.counts, Tasks.settled, Waiting, declared.types.answers.Stage.TheVariants.Never, has_tasks, is_at, is_settled, is_stage, is_task_of, is_unsettled}
+use Rattle.scope_rules.specs.{list_any, stage, task_numbers}
+use Rattle.scope_rules.proofs.Words.{lt-ltb}
 use Rattle.scope_rules.proofs.Completions.{count_by-cons}
 
 any_step : (b : Bool) (m : ℕ) (rest : Bool) → rest ≡ nat_lt 0 m → (b || rest) ≡ nat_lt 0 (cond b 1 0 + m)

@@ -1,22 +1,10 @@
 -- What one event more makes of the numbers of tasks at each stage.
-use Rattle.std.proofs.Common.{◌≡◌, ◌≢◌, ℕ, zero, suc, ◌+◌, ◌<◌, ◌≤◌, ◌==◌, ◌||◌, Bool, true, false, cond, Option, Some, None, count_by, refl, ap, sym, ◌∙◌, arith}
-use Rattle.std.proofs.lemmas.Bool.{eqb-true, eq-eqb}
-use Rattle.std.specs.List.{range_with_len}
-use Rattle.scope_rules.specs.declared.types.capacity.Limits.{Limits}
-use Rattle.scope_rules.specs.declared.types.answers.Stage.{Stage}
-use Rattle.scope_rules.specs.declared.types.events.Event.{Event}
-use Rattle.scope_rules.specs.declared.types.events.Event.TheVariants.{Fork}
-use Rattle.scope_rules.specs.declared.types.records.Forking.{Forking}
-use Rattle.scope_rules.specs.History.{History, followed, forking, forked_count, tasks, task_numbers, is_fork}
-use Rattle.scope_rules.specs.Completions.{is_task_of}
-use Rattle.scope_rules.specs.Tasks.{rejects, rejected, starts, started, finishes, finished, stage, is_at}
-use Rattle.scope_rules.specs.Legal.{Legal}
-use Rattle.scope_rules.proofs.Completions.{count_by-cons}
-use Rattle.scope_rules.proofs.Forkings.{forked_after}
-use Rattle.scope_rules.proofs.OneEventMore.{forking_other, forking_same}
-use Rattle.scope_rules.proofs.Numbers.{count_by_range}
-use Rattle.scope_rules.proofs.Owing.{count_push}
-use Rattle.scope_rules.proofs.Stages.{stage_grows, stage_is, same_staged}
+use Rattle.std.proofs.Common.{ℕ, ◌+◌, ◌<◌, ◌==◌, ◌||◌, ◌∙◌, ◌≡◌, ◌≢◌, ◌≤◌, Bool, None, Option, Some, ap, arith, cond, count_by, false, refl, suc, sym, true, zero}
+use Rattle.scope_rules.specs.{Event, Fork, Forking, History.History, History.tasks, Legal.Legal, Limits, Stage, finished, finishes, followed, forked_count, forking, is_at, is_fork, is_task_of, range_with_len, rejected, rejects}
+use Rattle.scope_rules.specs.{stage, started, starts, task_numbers}
+use Rattle.scope_rules.proofs.Words.{eq-eqb, eqb-true}
+use Rattle.scope_rules.proofs.{Completions.count_by-cons, Forkings.forked_after, Numbers.count_by_range, OneEventMore.forking_other, OneEventMore.forking_same, Owing.count_push, Stages.same_staged, Stages.stage_grows}
+use Rattle.scope_rules.proofs.{Stages.stage_is}
 
 or_from_none : (b c : Bool) → c ≡ false → (b || c) ≡ b
 or_from_none true c none = refl

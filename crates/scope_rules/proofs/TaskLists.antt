@@ -1,11 +1,8 @@
 -- The lists that a join answers of the tasks that pass a test: by another account of their states, and one
 -- task more.
-use Rattle.std.proofs.Common.{◌≡◌, ℕ, ◌+◌, Bool, true, false, cond, None, Some, List, [], ◌∷◌, ◌++◌, refl, ap, ◌∙◌}
-use Rattle.std.proofs.lemmas.List.Elements.{filter-append, filter_map-append}
-use Rattle.std.proofs.lemmas.List.{map-append}
-use Rattle.std.specs.List.{filter, cons_option, range_with_len}
-use Rattle.scope_rules.specs.declared.types.answers.State.{State}
-use Rattle.scope_rules.specs.Answers.{value_in, values_by, entry_in, listing_by}
+use Rattle.std.proofs.Common.{[], ℕ, ◌++◌, ◌+◌, ◌∙◌, ◌∷◌, ◌≡◌, Bool, List, None, Some, ap, cond, false, refl, true}
+use Rattle.scope_rules.specs.{State, cons_option, entry_in, filter, listing_by, range_with_len, value_in, values_by}
+use Rattle.scope_rules.proofs.Words.{filter-append, filter_map-append, map-append}
 use Rattle.scope_rules.proofs.Numbers.{range_push}
 
 module _ (p : ℕ → Bool) (x y : ℕ → State) (same : (k : ℕ) → p k ≡ true → x k ≡ y k) where

@@ -1,15 +1,7 @@
 -- What one event more makes of the moment and of deadlines.
-use Rattle.std.proofs.Common.{◌≡◌, ℕ, ◌||◌, Bool, true, false, cond, Option, Some, None, unwrap_or, [], ◌∷◌, ◌++◌, refl, ap, sym, ◌∙◌}
-use Rattle.std.specs.Option.{option_and_then, option_or, option_map_or}
-use Rattle.scope_rules.specs.declared.types.events.Event.{Event}
-use Rattle.scope_rules.specs.declared.types.records.Opening.{Opening}
-use Rattle.scope_rules.specs.Search.{last_of}
-use Rattle.scope_rules.specs.History.{History, followed, opening, moment, tick_of}
-use Rattle.scope_rules.specs.Scopes.{joined, joins}
-use Rattle.scope_rules.specs.Cancels.{move_of, deadline, counting_deadline}
-use Rattle.scope_rules.proofs.Prefixes.{last_of-push}
-use Rattle.scope_rules.proofs.Growing.{opening_stays}
-use Rattle.scope_rules.proofs.OneEventMore.{joined_grows}
+use Rattle.std.proofs.Common.{[], ℕ, ◌++◌, ◌||◌, ◌∙◌, ◌∷◌, ◌≡◌, Bool, None, Option, Some, ap, cond, false, refl, sym, true, unwrap_or}
+use Rattle.scope_rules.specs.{Event, History.History, History.moment, Opening, Scopes.joined, counting_deadline, deadline, followed, joins, last_of, move_of, opening, option_and_then, option_map_or, option_or, tick_of}
+use Rattle.scope_rules.proofs.{Growing.opening_stays, OneEventMore.joined_grows, Prefixes.last_of-push}
 
 or_else : {A : Type 0} (o p : Option A) (x : A) → unwrap_or (option_or o p) x ≡ unwrap_or o (unwrap_or p x)
 or_else None p x = refl

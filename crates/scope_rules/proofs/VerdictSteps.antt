@@ -1,22 +1,10 @@
 -- What one event more makes of verdicts, and what the beginning of a close covers.
-use Rattle.std.proofs.Common.{◌≡◌, ◌≢◌, ℕ, suc, ◌+◌, ◌<◌, ◌==◌, ◌&&◌, ◌||◌, Bool, true, false, not, Option, Some, None, nat_lt, [], ◌∷◌, ◌++◌, length, refl, ap, sym, ◌∙◌, arith, length-append, inl, inr}
-use Rattle.std.proofs.lemmas.Bool.{eqb-true, eq-eqb, ne_eqb, lt-ltb, ltb-true, and_parts, or_cases, not-true, false_from_ne_true}
-use Rattle.std.specs.Option.{option_map_or}
-use Rattle.std.specs.List.{list_any}
-use Rattle.scope_rules.specs.declared.types.events.Event.{Event}
-use Rattle.scope_rules.specs.declared.types.records.Opening.{Opening}
-use Rattle.scope_rules.specs.Search.{some_below}
-use Rattle.scope_rules.specs.History.{History, followed, opened_count, opening, scope_numbers}
-use Rattle.scope_rules.specs.Scopes.{closed, covers, have_one_opener}
-use Rattle.scope_rules.specs.Checks.{is_innermost}
-use Rattle.scope_rules.specs.Verdicts.{covers_other, covers_another, begins_for, violating_at, violated}
-use Rattle.scope_rules.proofs.Earlier.{scope_number}
-use Rattle.scope_rules.proofs.Heights.{any_where, range_any}
-use Rattle.scope_rules.proofs.Innermosts.{innermost_later, unclosed_innermost, innermost_unclosed}
-use Rattle.scope_rules.proofs.PassedRows.{innermost_passed}
-use Rattle.scope_rules.proofs.OneEventMore.{last_event, some_below_same}
-use Rattle.scope_rules.proofs.Prefixes.{get_push}
-use Rattle.scope_rules.proofs.Pushing.{before_push, before_last}
+use Rattle.std.proofs.Common.{[], ℕ, ◌&&◌, ◌++◌, ◌+◌, ◌<◌, ◌==◌, ◌||◌, ◌∙◌, ◌∷◌, ◌≡◌, ◌≢◌, Bool, None, Option, Some, ap, arith, false, inl, inr, length, length-append, nat_lt, not, refl, suc, sym, true}
+use Rattle.scope_rules.specs.{Event, History.History, Opening, begins_for, closed, covers, covers_another, covers_other, followed, have_one_opener, is_innermost, list_any, opened_count, opening, option_map_or, scope_numbers}
+use Rattle.scope_rules.specs.{some_below, violated, violating_at}
+use Rattle.scope_rules.proofs.Words.{and_parts, eq-eqb, eqb-true, false_from_ne_true, lt-ltb, ltb-true, ne_eqb, not-true, or_cases}
+use Rattle.scope_rules.proofs.{Earlier.scope_number, Heights.any_where, Heights.range_any, Innermosts.innermost_later, Innermosts.innermost_unclosed, Innermosts.unclosed_innermost, OneEventMore.last_event}
+use Rattle.scope_rules.proofs.{OneEventMore.some_below_same, PassedRows.innermost_passed, Prefixes.get_push, Pushing.before_last, Pushing.before_push}
 
 violating_earlier : (h : History) (e : Event) (s i : ℕ) → i < length h.events → violating_at (followed h e) s i ≡ violating_at h s i
 violating_earlier h e s i within = rw (before_push h e i (omega arith)) (rw (get_push h.events e i within) refl)

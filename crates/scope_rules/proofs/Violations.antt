@@ -1,21 +1,9 @@
 -- A scope is closed out of order exactly if its own close covered another.
-use Rattle.std.proofs.Common.{◌≡◌, ◌↔◌, ℕ, zero, suc, ◌+◌, ◌<◌, ◌==◌, ◌&&◌, nat_lt, Bool, true, false, not, cond, Option, Some, None, length, slice_get, refl, ap, sym, ◌∙◌, arith, inl, inr}
-use Rattle.std.specs.Option.{option_map_or}
-use Rattle.std.proofs.lemmas.Bool.{or_cases, eqb-true, eq-eqb, ne_eqb, and_parts, and_from, true_from_ne_false}
-use Rattle.std.proofs.lemmas.Option.{slice_get_within}
-use Rattle.scope_rules.specs.declared.types.events.Event.{Event}
-use Rattle.scope_rules.specs.declared.types.events.Event.TheVariants.{BeginClose}
-use Rattle.scope_rules.specs.declared.types.answers.Verdict.TheVariants.{Plain, NotJoined, Violated}
-use Rattle.scope_rules.specs.declared.types.records.Opening.{Opening}
-use Rattle.scope_rules.specs.Search.{some_below}
-use Rattle.scope_rules.specs.History.{History, before, opening, opened_count, scope_numbers}
-use Rattle.scope_rules.specs.Scopes.{closed, covers, have_one_opener, joined}
-use Rattle.scope_rules.specs.Tasks.{has_tasks}
-use Rattle.scope_rules.specs.Verdicts.{covers_other, covers_another, begins_for, violating_at, violated, verdict}
-use Rattle.scope_rules.specs.ClosingLaws.{CoveredAnother}
-use Rattle.scope_rules.proofs.Heights.{range_any, any_where}
-use Rattle.scope_rules.proofs.Innermosts.{opened_after}
-use Rattle.scope_rules.proofs.SamePairs.{none_below_at}
+use Rattle.std.proofs.Common.{ℕ, ◌&&◌, ◌+◌, ◌<◌, ◌==◌, ◌↔◌, ◌∙◌, ◌≡◌, Bool, None, Option, Some, ap, arith, cond, false, inl, inr, length, nat_lt, not, refl, slice_get, suc, sym, true, zero}
+use Rattle.scope_rules.specs.{BeginClose, CoveredAnother, Event, History.History, Opening, Plain, Scopes.joined, Violated, before, begins_for, closed, covers, covers_another, covers_other}
+use Rattle.scope_rules.specs.{declared.types.answers.Verdict.TheVariants.NotJoined, has_tasks, have_one_opener, opened_count, opening, option_map_or, scope_numbers, some_below, verdict, violated, violating_at}
+use Rattle.scope_rules.proofs.Words.{and_from, and_parts, eq-eqb, eqb-true, ne_eqb, or_cases, slice_get_within, true_from_ne_false}
+use Rattle.scope_rules.proofs.{Heights.any_where, Heights.range_any, Innermosts.opened_after, SamePairs.none_below_at}
 
 -- the test holds of some number below
 pub below_where : (test : ℕ → Bool) (n : ℕ) → some_below test n ≡ true → (i : ℕ) × (i < n) × (test i ≡ true)

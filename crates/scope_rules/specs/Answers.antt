@@ -1,23 +1,10 @@
 -- What a join answers, by what can be read of the scope's tasks. A history, a log and what is kept of
 -- scopes speak by these same definitions.
-use Rattle.std.specs.Prelude.{ℕ, ◌==◌, Bool, true, false, Option, Some, None, Ok, Err, List, map, if◌then◌else◌}
-use Rattle.std.specs.Option.{option_map_or}
-use Rattle.std.specs.List.{filter_map}
-use Rattle.scope_rules.specs.declared.types.events.Expiry.{Expiry}
-use Rattle.scope_rules.specs.declared.types.events.Expiry.TheVariants.{Fail, MoveOn}
-use Rattle.scope_rules.specs.declared.types.joiners.Policy.{Policy}
+use Rattle.std.specs.Prelude.{ℕ, ◌==◌, Bool, Err, List, None, Ok, Option, Some, false, if◌then◌else◌, map, true}
+use Rattle.scope_rules.specs.Words.{Call, Cause, CauseKind, Close, Completion, Deadline, Expiry, Fail, Joiner, MoveOn, Outcome, Policy, State, Success, TaskState, TaskValue, filter_map, option_map_or}
+use Rattle.scope_rules.specs.{Ends.EndValue, declared.types.answers.State.TheVariants.Unavailable}
 use Rattle.scope_rules.specs.declared.types.joiners.Policy.TheVariants as policy
-use Rattle.scope_rules.specs.declared.types.answers.State.{State}
-use Rattle.scope_rules.specs.declared.types.answers.State.TheVariants.{Unavailable, Success}
-use Rattle.scope_rules.specs.declared.types.answers.Cause.{Cause}
-use Rattle.scope_rules.specs.declared.types.answers.CauseKind.{CauseKind}
-use Rattle.scope_rules.specs.declared.types.answers.CauseKind.TheVariants.{Call, Close, Joiner, Deadline}
-use Rattle.scope_rules.specs.declared.types.outcomes.Outcome.{Outcome}
 use Rattle.scope_rules.specs.declared.types.outcomes.Outcome.TheVariants as outcome_is
-use Rattle.scope_rules.specs.declared.types.outcomes.TaskValue.{TaskValue}
-use Rattle.scope_rules.specs.declared.types.outcomes.TaskState.{TaskState}
-use Rattle.scope_rules.specs.declared.types.values.Completion.{Completion}
-use Rattle.scope_rules.specs.Ends.{EndValue}
 
 -- what can be read of a scope's tasks
 pub record Readable : Type 0 where

@@ -1,14 +1,7 @@
 -- What holds of bindings in every legal history, in the words of actors, forks and openings.
-use Rattle.std.specs.Prelude.{◌≡◌, ℕ, ◌+◌, ◌<◌, ◌≤◌, ◌⊎◌, ◌↔◌, false, IsTrue, Some, [], ◌∷◌, ◌++◌, length, take, slice_get}
-use Rattle.scope_rules.specs.declared.types.capacity.Limits.{Limits}
-use Rattle.scope_rules.specs.declared.types.events.Binding.{Binding}
-use Rattle.scope_rules.specs.declared.types.events.Event.TheVariants.{Bind}
-use Rattle.scope_rules.specs.declared.types.records.Opening.{Opening}
-use Rattle.scope_rules.specs.declared.types.records.Forking.{Forking}
-use Rattle.scope_rules.specs.History.{History, before, opening, forking}
-use Rattle.scope_rules.specs.Scopes.{closed}
-use Rattle.scope_rules.specs.Bindings.{first_stack, stack, bindings, bound_as_opened, holds_last}
-use Rattle.scope_rules.specs.Legal.{Legal}
+use Rattle.std.specs.Prelude.{[], ℕ, ◌++◌, ◌+◌, ◌<◌, ◌↔◌, ◌∷◌, ◌≡◌, ◌≤◌, ◌⊎◌, IsTrue, Some, false, length, slice_get, take}
+use Rattle.scope_rules.specs.Words.{Bind, Binding, Forking, Limits, Opening}
+use Rattle.scope_rules.specs.{Bindings.bindings, Bindings.bound_as_opened, Bindings.first_stack, Bindings.holds_last, Bindings.stack, History.History, History.before, History.forking, History.opening, Legal.Legal, Scopes.closed}
 
 -- a task sees what its forker saw at the fork, then its own pairs
 abbrev pub TaskSeesForker : Type 0

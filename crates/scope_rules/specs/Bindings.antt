@@ -1,18 +1,7 @@
 -- What actors see bound.
-use Rattle.std.specs.Prelude.{ℕ, zero, suc, ◌-◌, ◌==◌, ◌&&◌, Bool, false, not, nat_le, Option, Some, None, List, [], ◌∷◌, ◌++◌, length, take, slice_get, fold, if◌then◌else◌}
-use Rattle.std.specs.Option.{option_map_or, option_or}
-use Rattle.std.specs.List.{list_any}
-use Rattle.scope_rules.specs.Search.{some_below}
-use Rattle.scope_rules.specs.declared.types.names.Name.{Name}
-use Rattle.scope_rules.specs.declared.types.values.Value.{Value}
-use Rattle.scope_rules.specs.declared.types.events.Binding.{Binding}
-use Rattle.scope_rules.specs.declared.types.events.Event.{Event}
-use Rattle.scope_rules.specs.declared.types.events.Event.TheVariants.{Bind, Unbind}
-use Rattle.scope_rules.specs.declared.types.records.Opening.{Opening}
-use Rattle.scope_rules.specs.Names.{same_name}
-use Rattle.scope_rules.specs.Values.{same_value}
-use Rattle.scope_rules.specs.History.{History, before, opening, forking, scope_numbers}
-use Rattle.scope_rules.specs.Scopes.{closed}
+use Rattle.std.specs.Prelude.{[], ℕ, ◌&&◌, ◌++◌, ◌-◌, ◌==◌, ◌∷◌, Bool, List, None, Option, Some, false, fold, if◌then◌else◌, length, nat_le, not, slice_get, suc, take, zero}
+use Rattle.scope_rules.specs.Words.{Bind, Binding, Event, Name, Opening, Unbind, Value, list_any, option_map_or, option_or}
+use Rattle.scope_rules.specs.{History.History, History.before, History.forking, History.opening, History.scope_numbers, Names.same_name, Scopes.closed, Search.some_below, Values.same_value}
 
 abbrev pub without_last : List Binding → List Binding
 without_last bs = take (length bs - 1) bs

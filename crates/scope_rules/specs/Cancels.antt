@@ -1,20 +1,8 @@
 -- What cancels a scope: its own cancel, and the earliest own cancel on its chain.
-use Rattle.std.specs.Prelude.{ℕ, ◌+◌, ◌==◌, ◌&&◌, Bool, false, not, nat_le, nat_lt, max, Option, Some, None, option_map, length, slice_get, if◌then◌else◌, is_some}
-use Rattle.std.specs.Option.{option_and_then, option_or, option_map_or}
-use Rattle.scope_rules.specs.declared.types.events.Event.{Event}
-use Rattle.scope_rules.specs.declared.types.events.Event.TheVariants.{Cancel, BeginClose, Move}
-use Rattle.scope_rules.specs.declared.types.answers.CauseKind.{CauseKind}
-use Rattle.scope_rules.specs.declared.types.answers.CauseKind.TheVariants.{Call, Close, Joiner, Deadline}
-use Rattle.scope_rules.specs.declared.types.answers.Cause.{Cause}
-use Rattle.scope_rules.specs.declared.types.answers.Effective.{Effective}
-use Rattle.scope_rules.specs.declared.types.records.OwnCancel.{OwnCancel}
-use Rattle.scope_rules.specs.declared.types.records.FirstCancel.{FirstCancel}
-use Rattle.scope_rules.specs.Joining.{fires}
-use Rattle.scope_rules.specs.Search.{earliest, last_of}
-use Rattle.scope_rules.specs.Chains.{first_cancel_by, effective_by}
-use Rattle.scope_rules.specs.History.{History, before, opening, moment}
-use Rattle.scope_rules.specs.Scopes.{joined, covers, outer}
-use Rattle.scope_rules.specs.Completions.{completions, completes}
+use Rattle.std.specs.Prelude.{ℕ, ◌&&◌, ◌+◌, ◌==◌, Bool, None, Option, Some, false, if◌then◌else◌, is_some, length, max, nat_le, nat_lt, not, option_map, slice_get}
+use Rattle.scope_rules.specs.Words.{BeginClose, Call, Cancel, Cause, CauseKind, Close, Deadline, Effective, Event, FirstCancel, Joiner, Move, OwnCancel, option_and_then, option_map_or, option_or}
+use Rattle.scope_rules.specs.{Chains.effective_by, Chains.first_cancel_by, Completions.completes, Completions.completions, History.History, History.before, History.moment, History.opening, Joining.fires, Scopes.covers}
+use Rattle.scope_rules.specs.{Scopes.joined, Scopes.outer, Search.earliest, Search.last_of}
 
 abbrev pub move_of : ℕ → Event → Option (Option ℕ)
 move_of s (Move scope deadline) = if scope == s then Some deadline else None

@@ -1,6 +1,6 @@
 -- Which limits a realm can be given.
 use Rattle.std.specs.Prelude.{ℕ, ◌≤◌}
-use Rattle.scope_rules.specs.declared.types.capacity.TheConstants.{SCOPE_LIMIT, TASK_LIMIT, LOAD_LIMIT}
+use Rattle.scope_rules.specs.Words.{LOAD_LIMIT, SCOPE_LIMIT, TASK_LIMIT}
 
 pub record IsAllowed (scopes tasks load : ℕ) : Type 0 where
   pub some_scopes : 1 ≤ scopes

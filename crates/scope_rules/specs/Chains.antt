@@ -1,10 +1,9 @@
 -- Chains of scopes, and what comes first along them. A tree of scopes is given by functions of a
 -- scope's number: the scope outside it, its own cancel, its deadline. A history and a tree that is
 -- kept speak by these same definitions.
-use Rattle.std.specs.Prelude.{◌≡◌, ℕ, zero, suc, ◌+◌, ◌<◌, ◌≤◌, min, nat_le, is_some, Option, Some, None, List, [], ◌∷◌, if◌then◌else◌}
-use Rattle.scope_rules.specs.declared.types.records.FirstCancel.{FirstCancel}
-use Rattle.scope_rules.specs.declared.types.answers.Effective.{Effective}
-use Rattle.scope_rules.specs.declared.types.answers.Effective.TheVariants.{Past, At, Never}
+use Rattle.std.specs.Prelude.{[], ℕ, ◌+◌, ◌<◌, ◌∷◌, ◌≡◌, ◌≤◌, List, None, Option, Some, if◌then◌else◌, is_some, min, nat_le, suc, zero}
+use Rattle.scope_rules.specs.Words.{At, Effective, FirstCancel, Past}
+use Rattle.scope_rules.specs.declared.types.answers.Effective.TheVariants.{Never}
 
 -- each outer scope has a smaller number than what lies inside it
 abbrev pub IsInward : (ℕ → Option ℕ) → Type 0

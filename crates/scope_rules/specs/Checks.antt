@@ -1,16 +1,10 @@
 -- The checks, of which the table has rows: each passes, or says which failed. What is made of that is the refusal, or a
 -- reason that explains it.
-use Rattle.std.specs.Prelude.{ℕ, ◌==◌, ◌&&◌, Bool, false, not, nat_le, nat_lt, Result, Ok, Err, is_some, List, [], ◌∷◌, if◌then◌else◌}
-use Rattle.std.specs.Option.{option_map_or}
-use Rattle.scope_rules.specs.declared.types.refusals.Refusal.{Refusal}
+use Rattle.std.specs.Prelude.{[], ℕ, ◌&&◌, ◌==◌, ◌∷◌, Bool, Err, List, Ok, Result, false, if◌then◌else◌, is_some, nat_le, nat_lt, not}
+use Rattle.scope_rules.specs.Words.{Limits, Refusal, option_map_or}
+use Rattle.scope_rules.specs.{History.History, History.forking, History.opening, Load.over_load, Scopes.closing, Scopes.innermost, Scopes.joined, Tasks.is_running, Tasks.stage, declared.types.checks.Failed.Failed}
 use Rattle.scope_rules.specs.declared.types.refusals.Refusal.TheVariants as refusal
-use Rattle.scope_rules.specs.declared.types.checks.Failed.{Failed}
 use Rattle.scope_rules.specs.declared.types.checks.Failed.TheVariants as failed
-use Rattle.scope_rules.specs.declared.types.capacity.Limits.{Limits}
-use Rattle.scope_rules.specs.History.{History, opening, forking}
-use Rattle.scope_rules.specs.Load.{over_load}
-use Rattle.scope_rules.specs.Scopes.{joined, innermost, closing}
-use Rattle.scope_rules.specs.Tasks.{stage, is_running}
 
 -- a check passes, or gives what is made of it where it fails
 abbrev pub Tried : Type 0 → Type 0

@@ -1,13 +1,7 @@
 -- What closing leaves: nothing of a closed scope goes on, and nothing without a scope of main.
-use Rattle.std.specs.Prelude.{◌≡◌, ◌↔◌, ℕ, true, Some, None, slice_get}
-use Rattle.scope_rules.specs.declared.types.capacity.Limits.{Limits}
-use Rattle.scope_rules.specs.declared.types.events.Event.TheVariants.{BeginClose}
-use Rattle.scope_rules.specs.declared.types.answers.Verdict.TheVariants.{Violated}
-use Rattle.scope_rules.specs.History.{History, before}
-use Rattle.scope_rules.specs.Scopes.{closed, covers, innermost, parent}
-use Rattle.scope_rules.specs.Verdicts.{verdict}
-use Rattle.scope_rules.specs.Tasks.{stage, is_settled, settled}
-use Rattle.scope_rules.specs.Legal.{Legal}
+use Rattle.std.specs.Prelude.{ℕ, ◌↔◌, ◌≡◌, None, Some, slice_get, true}
+use Rattle.scope_rules.specs.Words.{BeginClose, Limits, Violated}
+use Rattle.scope_rules.specs.{History.History, History.before, Legal.Legal, Scopes.closed, Scopes.covers, Scopes.innermost, Scopes.parent, Tasks.is_settled, Tasks.settled, Tasks.stage, Verdicts.verdict}
 
 -- scope t lies inside scope s: s is its parent, or its parent lies inside s. Shields do not matter.
 pub data LiesInside (h : History) (s : ℕ) : ℕ → Type 0 where

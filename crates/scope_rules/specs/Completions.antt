@@ -1,10 +1,6 @@
 -- Which tasks are a scope's, and which of them completed.
-use Rattle.std.specs.Prelude.{ℕ, ◌==◌, Bool, false, Option, Some, None, List, if◌then◌else◌}
-use Rattle.std.specs.Option.{option_map_or}
-use Rattle.std.specs.List.{filter_map}
-use Rattle.scope_rules.specs.declared.types.events.Event.{Event}
-use Rattle.scope_rules.specs.declared.types.events.Event.TheVariants.{Finish}
-use Rattle.scope_rules.specs.declared.types.values.Completion.{Completion}
+use Rattle.std.specs.Prelude.{ℕ, ◌==◌, Bool, List, None, Option, Some, false, if◌then◌else◌}
+use Rattle.scope_rules.specs.Words.{Completion, Event, Finish, filter_map, option_map_or}
 use Rattle.scope_rules.specs.History.{History, forking}
 
 -- task k was forked in scope s

@@ -1,11 +1,7 @@
 -- What the deadline in effect is, in the words of the deadlines that count on a scope's chain.
-use Rattle.std.specs.Prelude.{◌≡◌, ℕ, ◌≤◌, true, false, Some, None}
-use Rattle.std.specs.List.{Contains}
-use Rattle.scope_rules.specs.declared.types.answers.Effective.{Effective}
-use Rattle.scope_rules.specs.declared.types.answers.Effective.TheVariants.{Past, At, Never}
-use Rattle.scope_rules.specs.History.{History}
-use Rattle.scope_rules.specs.Scopes.{chain}
-use Rattle.scope_rules.specs.Cancels.{is_cancelled, counting_deadline, effective}
+use Rattle.std.specs.Prelude.{ℕ, ◌≡◌, ◌≤◌, None, Some, false, true}
+use Rattle.scope_rules.specs.Words.{At, Contains, Effective, Past}
+use Rattle.scope_rules.specs.{Cancels.counting_deadline, Cancels.effective, Cancels.is_cancelled, History.History, Scopes.chain, declared.types.answers.Effective.TheVariants.Never}
 
 -- the deadline counts for a scope on the chain of scope s, and none that counts there is less
 pub record IsLeastDeadline (h : History) (s d : ℕ) : Type 0 where

@@ -1,6 +1,6 @@
 -- What the first cancel of a chain is, said of its scopes one by one.
-use Rattle.std.specs.Prelude.{◌≡◌, ℕ, ◌<◌, ◌≤◌, Option, Some, None, List, length, slice_index, MatchOption}
-use Rattle.scope_rules.specs.declared.types.records.FirstCancel.{FirstCancel}
+use Rattle.std.specs.Prelude.{ℕ, ◌<◌, ◌≡◌, ◌≤◌, List, MatchOption, None, Option, Some, length, slice_index}
+use Rattle.scope_rules.specs.Words.{FirstCancel}
 
 -- the first cancel is the own cancel of the i-th scope; none of the scopes has an earlier one, and none before the i-th has one as early
 pub record IsEarliestAt (own : ℕ → Option FirstCancel) (scopes : List ℕ) (first_cancel : FirstCancel) (i : ℕ) : Type 0 where

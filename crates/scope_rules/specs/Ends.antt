@@ -1,8 +1,5 @@
 -- Short names for types of the code that are aliases there.
-use Rattle.std.specs.Prelude.{Result}
-use Rattle.scope_rules.specs.declared.types.values.Label.{Label}
-use Rattle.scope_rules.specs.declared.types.values.Value.{Value}
-use Rattle.scope_rules.specs.declared.types.values.Fault.{Fault}
+use Rattle.scope_rules.specs.Words.{Fault, Label, Result, Value}
 
 abbrev pub LabelValue : Type 0
 LabelValue = Label

@@ -1,9 +1,7 @@
 -- Which ends fit which jobs.
-use Rattle.std.specs.Prelude.{◌≡◌, ◌⊎◌, Some, Ok, Err, codes}
-use Rattle.scope_rules.specs.declared.types.values.Label.{Label}
-use Rattle.scope_rules.specs.declared.types.values.Fault.{Fault}
-use Rattle.scope_rules.specs.Names.{text_of}
-use Rattle.scope_rules.specs.Ends.{EndValue}
+use Rattle.std.specs.Prelude.{◌≡◌, ◌⊎◌, Err, Ok, Some, codes}
+use Rattle.scope_rules.specs.Words.{Fault, Label}
+use Rattle.scope_rules.specs.{Ends.EndValue, Names.text_of}
 
 -- a fault that the runtime itself makes
 abbrev pub IsRuntimeFault : Fault → Type 0

@@ -1,13 +1,7 @@
 -- A history: what it begins with, and the events since. A prefix keeps the base.
-use Rattle.std.specs.Prelude.{ℕ, ◌+◌, ◌==◌, ◌<◌, ◌^◌, Bool, true, false, Option, Some, None, unwrap_or, List, [], ◌∷◌, ◌++◌, length, take, slice_get, count_by, if◌then◌else◌}
-use Rattle.std.specs.Option.{option_and_then}
-use Rattle.std.specs.List.{range_with_len}
-use Rattle.scope_rules.specs.declared.types.events.Event.{Event}
-use Rattle.scope_rules.specs.declared.types.events.Event.TheVariants.{Open, Fork, Tick}
-use Rattle.scope_rules.specs.declared.types.records.Opening.{Opening}
-use Rattle.scope_rules.specs.declared.types.records.Forking.{Forking}
-use Rattle.scope_rules.specs.Origin.{Origin}
-use Rattle.scope_rules.specs.Search.{earliest, last_of}
+use Rattle.std.specs.Prelude.{[], ℕ, ◌++◌, ◌+◌, ◌<◌, ◌==◌, ◌^◌, ◌∷◌, Bool, List, None, Option, Some, count_by, false, if◌then◌else◌, length, slice_get, take, true, unwrap_or}
+use Rattle.scope_rules.specs.Words.{Event, Fork, Forking, Opening, Tick, option_and_then, range_with_len}
+use Rattle.scope_rules.specs.{Origin.Origin, Search.earliest, Search.last_of, declared.types.events.Event.TheVariants.Open}
 
 pub record History : Type 0 where
   pub base : Origin

@@ -1,12 +1,6 @@
 -- When a joiner fires.
-use Rattle.std.specs.Prelude.{Bool, false, is_ok, is_err, List, [], ◌∷◌, nat_le, count_by, ℤ, pos, ◌+ℤ◌, int_le, Ok, Err}
-use Rattle.std.specs.List.{list_any}
-use Rattle.scope_rules.specs.declared.types.values.Completion.{Completion}
-use Rattle.scope_rules.specs.declared.types.values.Value.TheVariants.{Num, Text}
-use Rattle.scope_rules.specs.declared.types.joiners.Rule.{Rule}
-use Rattle.scope_rules.specs.declared.types.joiners.Rule.TheVariants.{FailuresAtLeast, SuccessesAtLeast, SumAtLeast}
-use Rattle.scope_rules.specs.declared.types.joiners.Policy.{Policy}
-use Rattle.scope_rules.specs.declared.types.joiners.Policy.TheVariants.{All, Any, AwaitAll, AwaitOk, Until}
+use Rattle.std.specs.Prelude.{[], ℤ, ◌+ℤ◌, ◌∷◌, Bool, Err, List, Ok, count_by, false, int_le, is_err, is_ok, nat_le, pos}
+use Rattle.scope_rules.specs.Words.{All, Any, AwaitAll, AwaitOk, Completion, FailuresAtLeast, Num, Policy, Rule, SuccessesAtLeast, SumAtLeast, Text, Until, list_any}
 use Rattle.scope_rules.specs.Ends.{EndValue}
 
 abbrev pub has_failed : Completion → Bool

@@ -1,18 +1,8 @@
 -- What holds of every history, in the words of scopes and cancels.
-use Rattle.std.specs.Prelude.{◌≡◌, ℕ, ◌<◌, ◌≤◌, Some, ◌∷◌, length}
-use Rattle.std.specs.Option.{option_or}
-use Rattle.scope_rules.specs.declared.types.capacity.Limits.{Limits}
-use Rattle.scope_rules.specs.declared.types.answers.Cause.{Cause}
-use Rattle.scope_rules.specs.declared.types.events.Event.{Event}
-use Rattle.scope_rules.specs.declared.types.records.OwnCancel.{OwnCancel}
-use Rattle.scope_rules.specs.declared.types.records.Opening.{Opening}
-use Rattle.scope_rules.specs.declared.types.records.Forking.{Forking}
-use Rattle.scope_rules.specs.History.{History, followed, scopes, tasks, opening, forking}
-use Rattle.scope_rules.specs.Chains.{onward}
-use Rattle.scope_rules.specs.Earliest.{IsEarliest}
-use Rattle.scope_rules.specs.Scopes.{chain, outer}
-use Rattle.scope_rules.specs.Cancels.{own, own_at, own_cancel, first_cancel, cause}
-use Rattle.scope_rules.specs.Legal.{Legal}
+use Rattle.std.specs.Prelude.{ℕ, ◌<◌, ◌∷◌, ◌≡◌, ◌≤◌, Some, length}
+use Rattle.scope_rules.specs.Words.{Cause, Event, Forking, Limits, Opening, OwnCancel, option_or}
+use Rattle.scope_rules.specs.{Cancels.cause, Cancels.first_cancel, Cancels.own, Cancels.own_at, Cancels.own_cancel, Chains.onward, Earliest.IsEarliest, History.History, History.followed, History.forking, History.opening}
+use Rattle.scope_rules.specs.{History.scopes, History.tasks, Legal.Legal, Scopes.chain, Scopes.outer}
 
 -- an own cancel never moves once it is set
 abbrev pub OwnCancelStays : Type 0

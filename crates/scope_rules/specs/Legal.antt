@@ -1,11 +1,7 @@
 -- Which histories are legal: each event was accepted on the events before it.
-use Rattle.std.specs.Prelude.{◌≡◌, ℕ, ◌≤◌, Ok, Some, false, slice_get}
-use Rattle.scope_rules.specs.declared.types.capacity.Limits.{Limits}
-use Rattle.scope_rules.specs.declared.types.capacity.TheConstants.{GREATEST_NUMBER}
-use Rattle.scope_rules.specs.declared.types.events.Event.{Event}
-use Rattle.scope_rules.specs.History.{History, before, scopes, opened_count, tasks, forked_count}
-use Rattle.scope_rules.specs.Load.{load}
-use Rattle.scope_rules.specs.Table.{check_of, is_already}
+use Rattle.std.specs.Prelude.{ℕ, ◌≡◌, ◌≤◌, Ok, Some, false, slice_get}
+use Rattle.scope_rules.specs.Words.{Event, GREATEST_NUMBER, Limits}
+use Rattle.scope_rules.specs.{History.History, History.before, History.forked_count, History.opened_count, History.scopes, History.tasks, Load.load, Table.check_of, Table.is_already}
 
 -- the event may come next after h: no check refuses it, and it is not so already
 pub record Accepts (L : Limits) (h : History) (e : Event) : Type 0 where

@@ -1,10 +1,7 @@
 -- What holds of levels in every legal history.
-use Rattle.std.specs.Prelude.{◌≡◌, ℕ, ◌+◌, ◌<◌, Some}
-use Rattle.std.specs.Option.{option_map_or}
-use Rattle.scope_rules.specs.declared.types.capacity.Limits.{Limits}
-use Rattle.scope_rules.specs.History.{History}
-use Rattle.scope_rules.specs.Scopes.{parent, level}
-use Rattle.scope_rules.specs.Legal.{Legal}
+use Rattle.std.specs.Prelude.{ℕ, ◌+◌, ◌<◌, ◌≡◌, Some}
+use Rattle.scope_rules.specs.Words.{Limits, option_map_or}
+use Rattle.scope_rules.specs.{History.History, Legal.Legal, Scopes.level, Scopes.parent}
 
 -- a scope's level is one more than its parent's, and 1 without a parent
 abbrev pub LevelGoesByParent : Type 0

@@ -35,3 +35,39 @@ pub mod BindingLaws
 pub mod LevelLaws
 pub mod ClosingLaws
 pub mod DeadlineLaws
+pub mod Words
+pub use Words.*
+pub use Answers.*
+pub use BindingLaws.*
+unfoldable pub use Bindings.*
+unfoldable pub use Cancels.*
+unfoldable pub use Chains.*
+unfoldable pub use Checks.*
+pub use ClosingLaws.*
+unfoldable pub use Completions.*
+pub use DeadlineLaws.*
+pub use Earliest.*
+pub use Ends.*
+pub use Fitting.*
+unfoldable pub use History.*
+unfoldable pub use Joining.*
+pub use Laws.*
+unfoldable pub use Legal.*
+pub use LevelLaws.*
+unfoldable pub use Load.*
+unfoldable pub use NameText.*
+pub use Names.*
+pub use Origin.*
+pub use OutcomeLaws.*
+unfoldable pub use Outcomes.*
+unfoldable pub use Owed.*
+pub use Refusals.*
+unfoldable pub use Replies.*
+unfoldable pub use Scopes.*
+unfoldable pub use Search.*
+pub use StackSteps.*
+unfoldable pub use Table.*
+unfoldable pub use Tasks.*
+unfoldable pub use Texts.*
+pub use Values.*
+unfoldable pub use Verdicts.*

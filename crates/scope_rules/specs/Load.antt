@@ -1,11 +1,7 @@
 -- What a realm takes: the load of its events, and whether one more would pass a limit.
-use Rattle.std.specs.Prelude.{ℕ, ◌+◌, ◌||◌, Bool, nat_le, nat_lt, length}
-use Rattle.std.specs.List.{sum_by}
-use Rattle.scope_rules.specs.declared.types.events.Event.{Event}
-use Rattle.scope_rules.specs.declared.types.events.Event.TheVariants.{Open, Fork, Cancel, Move, Tick, Bind, Unbind}
-use Rattle.scope_rules.specs.declared.types.capacity.Limits.{Limits}
-use Rattle.scope_rules.specs.declared.types.capacity.TheConstants.{OPEN_LOAD, FORK_LOAD, STEP_LOAD, GREATEST_NUMBER}
-use Rattle.scope_rules.specs.History.{History, scopes, opened_count, tasks, forked_count}
+use Rattle.std.specs.Prelude.{ℕ, ◌+◌, ◌||◌, Bool, length, nat_le, nat_lt}
+use Rattle.scope_rules.specs.Words.{Bind, Cancel, Event, FORK_LOAD, Fork, GREATEST_NUMBER, Limits, Move, OPEN_LOAD, STEP_LOAD, Tick, Unbind, sum_by}
+use Rattle.scope_rules.specs.{History.History, History.forked_count, History.opened_count, History.scopes, History.tasks, declared.types.events.Event.TheVariants.Open}
 
 -- what an accepted command costs
 abbrev pub weight : Event → ℕ

@@ -1,7 +1,6 @@
 -- What the text of a name is.
-use Rattle.std.specs.Prelude.{ℕ, ◌-◌, Bool, false, ◌&&◌, ◌||◌, ◌==◌, nat_le, List, [], ◌∷◌, ◌++◌, length, take, replicate}
-use Rattle.std.specs.List.{list_all}
-use Rattle.std.specs.Str.{bytes_eq}
+use Rattle.std.specs.Prelude.{[], ℕ, ◌&&◌, ◌++◌, ◌-◌, ◌==◌, ◌||◌, ◌∷◌, Bool, List, false, length, nat_le, replicate, take}
+use Rattle.std.specs.{List.list_all, Str.bytes_eq}
 use Rattle.scope_rules.specs.declared.types.names.TheConstants.{NAME_LIMIT}
 
 -- a byte from `a` to `z`

@@ -1,7 +1,5 @@
 -- Names by their texts.
-use Rattle.std.specs.Prelude.{ℕ, Bool, List, take, nat_eq}
-use Rattle.std.specs.Cmp.Lexicographic.{pointwise}
-use Rattle.scope_rules.specs.declared.types.names.Name.{Name}
+use Rattle.scope_rules.specs.Words.{ℕ, Bool, List, Name, nat_eq, pointwise, take}
 
 -- the text of a name
 abbrev pub text_of : Name → List ℕ

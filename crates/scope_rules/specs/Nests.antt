@@ -1,22 +1,10 @@
 -- How the scopes that are not closed lie in one another, which tasks are a scope's, and what there is to
 -- say of a scope and of a task.
-use Rattle.std.specs.Prelude.{ℕ, ◌+◌, nat_lt, Option, None, option_map, ok_or, Result, List, slice_get, if◌then◌else◌}
-use Rattle.std.specs.Option.{option_and_then}
-use Rattle.std.specs.List.{filter}
-use Rattle.scope_rules.specs.declared.types.infos.ScopeStage.{ScopeStage}
-use Rattle.scope_rules.specs.declared.types.infos.ScopeStage.TheVariants.{Open, Closing, Closed}
-use Rattle.scope_rules.specs.declared.types.infos.ScopeInfo.{ScopeInfo}
-use Rattle.scope_rules.specs.declared.types.records.Opening.{Opening}
-use Rattle.scope_rules.specs.declared.types.refusals.Refusal.{Refusal}
-use Rattle.scope_rules.specs.declared.types.refusals.Refusal.TheVariants.{NoScope, NoTask}
-use Rattle.scope_rules.specs.declared.types.values.Label.{Label}
-use Rattle.scope_rules.specs.Search.{earliest}
-use Rattle.scope_rules.specs.History.{History, opened_count, opening, forking, task_numbers}
-use Rattle.scope_rules.specs.Scopes.{joined, closed, closing, unclosed_of}
-use Rattle.scope_rules.specs.Cancels.{deadline, cause}
-use Rattle.scope_rules.specs.Completions.{is_task_of}
-use Rattle.scope_rules.specs.Checks.{scope_check, task_check}
-use Rattle.scope_rules.specs.Table.{checked_then, answering}
+use Rattle.std.specs.Prelude.{ℕ, ◌+◌, List, None, Option, Result, if◌then◌else◌, nat_lt, ok_or, option_map, slice_get}
+use Rattle.scope_rules.specs.Words.{Closing, Label, NoScope, NoTask, Opening, Refusal, ScopeInfo, ScopeStage, filter, option_and_then}
+use Rattle.scope_rules.specs.{Cancels.cause, Cancels.deadline, Checks.scope_check, Checks.task_check, Completions.is_task_of, History.History, History.forking, History.opened_count, History.opening, History.task_numbers}
+use Rattle.scope_rules.specs.{Scopes.closed, Scopes.closing, Scopes.joined, Scopes.unclosed_of, Search.earliest, Table.answering, Table.checked_then, declared.types.infos.ScopeStage.TheVariants.Closed}
+use Rattle.scope_rules.specs.{declared.types.infos.ScopeStage.TheVariants.Open}
 
 -- ---- what lies in what
 

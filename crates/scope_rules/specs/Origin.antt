@@ -1,5 +1,5 @@
 -- What a history begins with.
-use Rattle.std.specs.Prelude.{ℕ, List, []}
+use Rattle.std.specs.Prelude.{[], ℕ, List}
 use Rattle.scope_rules.specs.declared.types.events.Binding.{Binding}
 
 -- the moment, how many scopes and tasks were numbered before, and main's own bindings

@@ -1,12 +1,7 @@
 -- What holds of outcomes, whatever comes later.
-use Rattle.std.specs.Prelude.{◌≡◌, ℕ, true, Some, Ok}
-use Rattle.scope_rules.specs.declared.types.events.Event.{Event}
-use Rattle.scope_rules.specs.declared.types.outcomes.Outcome.{Outcome}
-use Rattle.scope_rules.specs.declared.types.records.Forking.{Forking}
-use Rattle.scope_rules.specs.History.{History, followed, forking}
-use Rattle.scope_rules.specs.Scopes.{joined}
-use Rattle.scope_rules.specs.Table.{reading_check}
-use Rattle.scope_rules.specs.Outcomes.{outcome}
+use Rattle.std.specs.Prelude.{ℕ, ◌≡◌, Ok, Some, true}
+use Rattle.scope_rules.specs.Words.{Event, Forking, Outcome}
+use Rattle.scope_rules.specs.{History.History, History.followed, History.forking, Outcomes.outcome, Scopes.joined, Table.reading_check}
 
 -- an outcome never changes once it is set
 abbrev pub OutcomeStays : Type 0

@@ -1,19 +1,8 @@
 -- What a join answers, decided by what is before it.
-use Rattle.std.specs.Prelude.{ℕ, ◌&&◌, Bool, Option, Some, None, option_map, length, slice_get, if◌then◌else◌}
-use Rattle.std.specs.Option.{option_and_then}
-use Rattle.scope_rules.specs.declared.types.events.Event.{Event}
-use Rattle.scope_rules.specs.declared.types.outcomes.Outcome.{Outcome}
-use Rattle.scope_rules.specs.declared.types.records.Opening.{Opening}
-use Rattle.scope_rules.specs.declared.types.values.Completion.{Completion}
-use Rattle.scope_rules.specs.Answers.{Readable, is_available, values_by, listing_by, answer_of}
-use Rattle.scope_rules.specs.Joining.{has_failed, has_succeeded}
-use Rattle.scope_rules.specs.Search.{earliest}
-use Rattle.scope_rules.specs.History.{History, before, opening}
-use Rattle.scope_rules.specs.Scopes.{joins}
-use Rattle.scope_rules.specs.Cancels.{cause}
-use Rattle.scope_rules.specs.Completions.{completion_of}
-use Rattle.scope_rules.specs.Nests.{tasks_of}
-use Rattle.scope_rules.specs.Tasks.{state}
+use Rattle.std.specs.Prelude.{ℕ, ◌&&◌, Bool, None, Option, Some, if◌then◌else◌, length, option_map, slice_get}
+use Rattle.scope_rules.specs.Words.{Completion, Event, Opening, Outcome, option_and_then}
+use Rattle.scope_rules.specs.{Answers.Readable, Answers.answer_of, Answers.is_available, Answers.listing_by, Answers.values_by, Cancels.cause, Completions.completion_of, History.History, History.before, History.opening}
+use Rattle.scope_rules.specs.{Joining.has_failed, Joining.has_succeeded, Nests.tasks_of, Scopes.joins, Search.earliest, Tasks.state}
 
 -- the completion of a task of scope s that the event is, if the test holds of it and it can be read
 abbrev pub readable : (Completion → Bool) → History → ℕ → Event → Option Completion

@@ -1,9 +1,6 @@
 -- Which events may still come that cost nothing: room for them is made before.
-use Rattle.std.specs.Prelude.{ℕ, ◌+◌, ◌==◌, Bool, false, not, Option, Some, None, List, count_by}
-use Rattle.std.specs.Option.{option_map_or}
-use Rattle.std.specs.List.{list_any}
-use Rattle.scope_rules.specs.declared.types.events.Event.{Event}
-use Rattle.scope_rules.specs.declared.types.events.Event.TheVariants.{Reject, Start, Finish, Join, BeginClose, EndClose}
+use Rattle.std.specs.Prelude.{ℕ, ◌+◌, ◌==◌, Bool, List, None, Option, Some, count_by, false, not}
+use Rattle.scope_rules.specs.Words.{BeginClose, EndClose, Event, Finish, Join, Reject, Start, list_any, option_map_or}
 use Rattle.scope_rules.specs.History.{History, scope_numbers, task_numbers}
 
 -- the events that are still to come once for each scope or task

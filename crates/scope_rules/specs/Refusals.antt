@@ -1,8 +1,7 @@
 -- The numbers, words and lines of refusals.
-use Rattle.std.specs.Prelude.{ℕ, List, ◌++◌, codes}
-use Rattle.std.specs.Fmt.{decimal}
-use Rattle.scope_rules.specs.declared.types.refusals.Refusal.{Refusal}
-use Rattle.scope_rules.specs.declared.types.refusals.Refusal.TheVariants.{NoScope, NotOwner, Closed, AlreadyJoined, NotJoined, Structure, NoTask, WrongStage, ClockBack, TooMany, NotReady, NotBound, Unavailable, NotSuccess, NotFailed, Rejected, Memory, BadWord, TooDeep, Retired}
+use Rattle.std.specs.Prelude.{ℕ, ◌++◌, List, codes}
+use Rattle.scope_rules.specs.Words.{AlreadyJoined, BadWord, ClockBack, Memory, NoScope, NoTask, NotBound, NotFailed, NotOwner, NotReady, NotSuccess, Refusal, Rejected, Retired, Structure, TooDeep, TooMany, WrongStage, decimal}
+use Rattle.scope_rules.specs.declared.types.refusals.Refusal.TheVariants.{Closed, NotJoined, Unavailable}
 
 abbrev pub refusal_number : Refusal → ℕ
 refusal_number NoScope = 1

@@ -1,24 +1,9 @@
 -- What commands and queries answer, and what they leave.
-use Rattle.std.specs.Prelude.{◌≡◌, ℕ, ◌+◌, Bool, true, false, not, ◌⊎◌, Option, Some, ok_or, Result, Ok, Err, is_ok, nat_lt, length, [], ◌∷◌, if◌then◌else◌}
-use Rattle.scope_rules.specs.declared.types.names.Name.{Name}
-use Rattle.scope_rules.specs.declared.types.values.Value.{Value}
-use Rattle.scope_rules.specs.declared.types.values.Fault.{Fault}
-use Rattle.scope_rules.specs.declared.types.events.Event.{Event}
-use Rattle.scope_rules.specs.declared.types.capacity.Limits.{Limits}
-use Rattle.scope_rules.specs.declared.types.refusals.Refusal.{Refusal}
-use Rattle.scope_rules.specs.declared.types.refusals.Refusal.TheVariants.{NotBound, NotJoined, Memory, TooMany}
-use Rattle.scope_rules.specs.declared.types.answers.Cancelling.{Cancelling}
-use Rattle.scope_rules.specs.declared.types.answers.Cancelling.TheVariants.{Recorded, Already}
-use Rattle.scope_rules.specs.declared.types.answers.ForkReply.{ForkReply}
-use Rattle.scope_rules.specs.declared.types.answers.ForkReply.TheVariants.{Thread, Never}
-use Rattle.scope_rules.specs.Origin.{Origin}
-use Rattle.scope_rules.specs.History.{History, followed, scopes, tasks, moment}
-use Rattle.scope_rules.specs.Scopes.{joined}
-use Rattle.scope_rules.specs.Cancels.{is_cancelled}
-use Rattle.scope_rules.specs.Tasks.{state}
-use Rattle.scope_rules.specs.Bindings.{stack, bindings, bound_to}
-use Rattle.scope_rules.specs.Checks.{Checked, checks, refuse_if, scope_check, actor_check}
-use Rattle.scope_rules.specs.Table.{is_already, reading_check, checked_then, answering, value_shown, fault_shown}
+use Rattle.std.specs.Prelude.{[], ℕ, ◌+◌, ◌∷◌, ◌≡◌, ◌⊎◌, Bool, Err, Ok, Option, Result, Some, false, if◌then◌else◌, is_ok, length, nat_lt, not, ok_or, true}
+use Rattle.scope_rules.specs.Words.{Already, Cancelling, Event, Fault, ForkReply, Limits, Memory, Name, NotBound, Recorded, Refusal, Thread, TooMany, Value}
+use Rattle.scope_rules.specs.{Bindings.bindings, Bindings.bound_to, Bindings.stack, Cancels.is_cancelled, Checks.Checked, Checks.actor_check, Checks.checks, Checks.refuse_if, Checks.scope_check, History.History, History.followed}
+use Rattle.scope_rules.specs.{History.moment, History.scopes, History.tasks, Origin.Origin, Scopes.joined, Table.answering, Table.checked_then, Table.fault_shown, Table.is_already, Table.reading_check, Table.value_shown}
+use Rattle.scope_rules.specs.{Tasks.state, declared.types.answers.ForkReply.TheVariants.Never, declared.types.refusals.Refusal.TheVariants.NotJoined}
 
 -- a realm: its limits, and its history
 pub record Realm : Type 0 where

@@ -1,13 +1,7 @@
 -- Who owns a scope, what lies around it, and whether it is joined, closing or closed.
-use Rattle.std.specs.Prelude.{ℕ, ◌+◌, ◌==◌, ◌&&◌, ◌||◌, Bool, false, not, nat_lt, Option, Some, None, option_map, List, length, slice_get, if◌then◌else◌}
-use Rattle.std.specs.Option.{option_and_then, option_or, option_map_or}
-use Rattle.std.specs.List.{list_any}
-use Rattle.scope_rules.specs.declared.types.events.Event.{Event}
-use Rattle.scope_rules.specs.declared.types.events.Event.TheVariants.{Join, BeginClose, EndClose}
-use Rattle.scope_rules.specs.declared.types.records.Opening.{Opening}
-use Rattle.scope_rules.specs.Search.{latest, some_below}
-use Rattle.scope_rules.specs.Chains.{chain_by}
-use Rattle.scope_rules.specs.History.{History, before, opened_count, opening, forking}
+use Rattle.std.specs.Prelude.{ℕ, ◌&&◌, ◌+◌, ◌==◌, ◌||◌, Bool, List, None, Option, Some, false, if◌then◌else◌, length, nat_lt, not, option_map, slice_get}
+use Rattle.scope_rules.specs.Words.{BeginClose, EndClose, Event, Join, Opening, list_any, option_and_then, option_map_or, option_or}
+use Rattle.scope_rules.specs.{Chains.chain_by, History.History, History.before, History.forking, History.opened_count, History.opening, Search.latest, Search.some_below}
 
 abbrev pub joins : ℕ → Event → Bool
 joins s (Join actor scope) = scope == s

@@ -1,6 +1,6 @@
 -- Searches over numbers and lists.
-use Rattle.std.specs.Prelude.{ℕ, zero, suc, ◌||◌, Bool, false, Option, None, List, [], ◌∷◌}
-use Rattle.std.specs.Option.{option_or}
+use Rattle.std.specs.Prelude.{[], ℕ, ◌||◌, ◌∷◌, Bool, List, None, Option, false, suc, zero}
+use Rattle.scope_rules.specs.Words.{option_or}
 
 -- what the least number below n gives, of those that give something
 unfoldable pub earliest : {A : Type 0} → (ℕ → Option A) → ℕ → Option A

@@ -1,9 +1,7 @@
 -- How the search for one pair of an actor goes on by an event. No public clause speaks of it: the rule
 -- is `stack`, and these two are what its length and one place of it become.
-use Rattle.std.specs.Prelude.{ℕ, ◌+◌, ◌-◌, ◌==◌, nat_le, Option, Some, None, if◌then◌else◌}
-use Rattle.scope_rules.specs.declared.types.events.Binding.{Binding}
-use Rattle.scope_rules.specs.declared.types.events.Event.{Event}
-use Rattle.scope_rules.specs.declared.types.events.Event.TheVariants.{Bind, Unbind}
+use Rattle.std.specs.Prelude.{ℕ, ◌+◌, ◌-◌, ◌==◌, None, Option, Some, if◌then◌else◌, nat_le}
+use Rattle.scope_rules.specs.Words.{Bind, Binding, Event, Unbind}
 
 -- how many own pairs the actor has after the event, if it had n
 abbrev pub height_after : ℕ → ℕ → Event → ℕ

@@ -1,26 +1,14 @@
 -- The table of checks: what each event is refused for, in the order in which it is tried, and which
 -- events are answered that all is so already. Then what queries are refused for.
-use Rattle.std.specs.Prelude.{ℕ, ◌==◌, Bool, false, not, nat_lt, Result, Ok, Err, is_some, List, [], ◌∷◌, length, if◌then◌else◌}
-use Rattle.std.specs.Option.{option_map_or}
-use Rattle.scope_rules.specs.declared.types.values.Value.{Value}
-use Rattle.scope_rules.specs.declared.types.values.Fault.{Fault}
-use Rattle.scope_rules.specs.declared.types.events.Event.{Event}
-use Rattle.scope_rules.specs.declared.types.events.Event.TheVariants.{Open, Fork, Reject, Start, Finish, Cancel, Move, Tick, Bind, Unbind, Join, BeginClose, EndClose}
-use Rattle.scope_rules.specs.declared.types.refusals.Refusal.{Refusal}
-use Rattle.scope_rules.specs.declared.types.refusals.Refusal.TheVariants.{Unavailable, NotSuccess, NotFailed}
-use Rattle.scope_rules.specs.declared.types.checks.Failed.{Failed}
+use Rattle.std.specs.Prelude.{[], ℕ, ◌==◌, ◌∷◌, Bool, Err, List, Ok, Result, false, if◌then◌else◌, is_some, length, nat_lt, not}
+use Rattle.scope_rules.specs.Words.{BeginClose, Bind, Cancel, EndClose, Event, FORK_LOAD, Fault, Finish, Fork, Join, LEVEL_LIMIT, Limits, Move, NotFailed, NotSuccess, OPEN_LOAD, Refusal, Reject, STEP_LOAD, Start, State, Tick}
+use Rattle.scope_rules.specs.Words.{Unbind, Value, option_map_or}
+use Rattle.scope_rules.specs.{Bindings.bound_as_opened, Bindings.holds_last, Bindings.stack, Cancels.is_cancelled, Checks.Checked, Checks.Tried, Checks.checks, Checks.in_closing, Checks.is_innermost, Checks.known_actor}
+use Rattle.scope_rules.specs.{Checks.known_scope, Checks.known_task, Checks.load_fits, Checks.not_closing, Checks.not_joined, Checks.owned, Checks.owns, Checks.refusal_of, Checks.refuse_if, History.History, History.forking}
+use Rattle.scope_rules.specs.{History.moment, Load.over_scopes, Load.over_tasks, Scopes.closed, Scopes.closing, Scopes.innermost, Scopes.joined, Scopes.next_level, Tasks.is_running, Tasks.is_waiting, Tasks.ready, Tasks.settled}
+use Rattle.scope_rules.specs.{Tasks.stage, declared.types.checks.Failed.Failed, declared.types.events.Event.TheVariants.Open, declared.types.refusals.Refusal.TheVariants.Unavailable}
 use Rattle.scope_rules.specs.declared.types.checks.Failed.TheVariants as failed
-use Rattle.scope_rules.specs.declared.types.capacity.Limits.{Limits}
-use Rattle.scope_rules.specs.declared.types.capacity.TheConstants.{LEVEL_LIMIT, OPEN_LOAD, FORK_LOAD, STEP_LOAD}
-use Rattle.scope_rules.specs.declared.types.answers.State.{State}
 use Rattle.scope_rules.specs.declared.types.answers.State.TheVariants as state_is
-use Rattle.scope_rules.specs.History.{History, forking, moment}
-use Rattle.scope_rules.specs.Load.{over_scopes, over_tasks}
-use Rattle.scope_rules.specs.Scopes.{joined, closed, innermost, next_level, closing}
-use Rattle.scope_rules.specs.Cancels.{is_cancelled}
-use Rattle.scope_rules.specs.Tasks.{stage, is_running, is_waiting, ready, settled}
-use Rattle.scope_rules.specs.Bindings.{stack, bound_as_opened, holds_last}
-use Rattle.scope_rules.specs.Checks.{Tried, Checked, refusal_of, refuse_if, checks, known_scope, known_task, known_actor, owns, owned, not_closing, not_joined, load_fits, in_closing, is_innermost}
 
 -- the table: one row an event
 abbrev pub rows : {F : Type 0} → (Failed → F) → Limits → History → Event → List (Tried F)

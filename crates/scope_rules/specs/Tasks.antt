@@ -1,21 +1,8 @@
 -- How far tasks have come, what they gave, and whether a scope may be joined.
-use Rattle.std.specs.Prelude.{ℕ, ◌==◌, ◌&&◌, ◌||◌, Bool, true, false, not, Option, Some, None, Ok, Err, length, slice_get, count_by, if◌then◌else◌}
-use Rattle.std.specs.Option.{option_and_then, option_map_or}
-use Rattle.std.specs.List.{list_any}
-use Rattle.scope_rules.specs.declared.types.events.Event.{Event}
-use Rattle.scope_rules.specs.declared.types.events.Event.TheVariants.{Reject, Start, Finish}
-use Rattle.scope_rules.specs.declared.types.answers.Stage.{Stage}
-use Rattle.scope_rules.specs.declared.types.answers.Stage.TheVariants.{Never, Waiting, Running, Finished}
-use Rattle.scope_rules.specs.declared.types.answers.State.{State}
-use Rattle.scope_rules.specs.declared.types.answers.State.TheVariants.{Unavailable, Success, Failed}
-use Rattle.scope_rules.specs.declared.types.answers.Counts.{Counts}
-use Rattle.scope_rules.specs.declared.types.records.Forking.{Forking}
-use Rattle.scope_rules.specs.declared.types.records.Ending.{Ending}
-use Rattle.scope_rules.specs.Ends.{EndValue}
-use Rattle.scope_rules.specs.Search.{earliest}
-use Rattle.scope_rules.specs.History.{History, forking, task_numbers}
-use Rattle.scope_rules.specs.Cancels.{cancelled_before, is_cancelled}
-use Rattle.scope_rules.specs.Completions.{is_task_of}
+use Rattle.std.specs.Prelude.{ℕ, ◌&&◌, ◌==◌, ◌||◌, Bool, Err, None, Ok, Option, Some, count_by, false, if◌then◌else◌, length, not, slice_get, true}
+use Rattle.scope_rules.specs.Words.{Counts, Ending, Event, Finish, Finished, Forking, Reject, Running, Stage, Start, State, Success, Waiting, list_any, option_and_then, option_map_or}
+use Rattle.scope_rules.specs.{Cancels.cancelled_before, Cancels.is_cancelled, Completions.is_task_of, Ends.EndValue, History.History, History.forking, History.task_numbers, Search.earliest}
+use Rattle.scope_rules.specs.{declared.types.answers.Stage.TheVariants.Never, declared.types.answers.State.TheVariants.Failed, declared.types.answers.State.TheVariants.Unavailable}
 
 abbrev pub rejects : ℕ → Event → Bool
 rejects k (Reject task) = task == k

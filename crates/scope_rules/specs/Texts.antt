@@ -1,25 +1,13 @@
 -- The texts of what goes in and comes out, in the words of a script: stages, states and causes, values, faults, ends,
 -- labels, lists of tasks, and what a join gave.
-use Rattle.std.specs.Prelude.{ℕ, List, ◌++◌, Option, None, Some, codes}
-use Rattle.std.specs.List.{flat_map}
-use Rattle.std.specs.Fmt.{decimal, signed_decimal}
-use Rattle.scope_rules.specs.declared.types.answers.CauseKind.{CauseKind}
+use Rattle.std.specs.Prelude.{ℕ, ◌++◌, List, None, Option, Some, codes}
+use Rattle.scope_rules.specs.Words.{CauseKind, Fault, Label, Outcome, Stage, State, TaskState, TaskValue, Value, decimal, flat_map, signed_decimal}
+use Rattle.scope_rules.specs.{Ends.EndValue, Names.text_of, Tasks.state_by_end}
 use Rattle.scope_rules.specs.declared.types.answers.CauseKind.TheVariants as kind
-use Rattle.scope_rules.specs.declared.types.answers.Stage.{Stage}
 use Rattle.scope_rules.specs.declared.types.answers.Stage.TheVariants as stage
-use Rattle.scope_rules.specs.declared.types.answers.State.{State}
 use Rattle.scope_rules.specs.declared.types.answers.State.TheVariants as state
-use Rattle.scope_rules.specs.declared.types.outcomes.Outcome.{Outcome}
 use Rattle.scope_rules.specs.declared.types.outcomes.Outcome.TheVariants as outcome
-use Rattle.scope_rules.specs.declared.types.outcomes.TaskState.{TaskState}
-use Rattle.scope_rules.specs.declared.types.outcomes.TaskValue.{TaskValue}
-use Rattle.scope_rules.specs.declared.types.values.Fault.{Fault}
-use Rattle.scope_rules.specs.declared.types.values.Label.{Label}
-use Rattle.scope_rules.specs.declared.types.values.Value.{Value}
 use Rattle.scope_rules.specs.declared.types.values.Value.TheVariants as value
-use Rattle.scope_rules.specs.Ends.{EndValue}
-use Rattle.scope_rules.specs.Names.{text_of}
-use Rattle.scope_rules.specs.Tasks.{state_by_end}
 
 -- how far a task has come
 abbrev pub stage_word : Stage → List ℕ

@@ -1,8 +1,5 @@
 -- Values that are one.
-use Rattle.std.specs.Prelude.{Bool, false}
-use Rattle.std.specs.Ordering.{int_eq}
-use Rattle.scope_rules.specs.declared.types.values.Value.{Value}
-use Rattle.scope_rules.specs.declared.types.values.Value.TheVariants.{Num, Text}
+use Rattle.scope_rules.specs.Words.{Bool, Num, Text, Value, false, int_eq}
 use Rattle.scope_rules.specs.Names.{same_name}
 
 -- values are distinguished by numbers and texts

@@ -1,15 +1,7 @@
 -- How a scope was closed.
-use Rattle.std.specs.Prelude.{ℕ, ◌==◌, ◌&&◌, Bool, false, not, length, slice_get, if◌then◌else◌}
-use Rattle.std.specs.Option.{option_map_or}
-use Rattle.std.specs.List.{list_any}
-use Rattle.scope_rules.specs.declared.types.events.Event.{Event}
-use Rattle.scope_rules.specs.declared.types.events.Event.TheVariants.{BeginClose}
-use Rattle.scope_rules.specs.declared.types.answers.Verdict.{Verdict}
-use Rattle.scope_rules.specs.declared.types.answers.Verdict.TheVariants.{Plain, NotJoined, Violated}
-use Rattle.scope_rules.specs.Search.{some_below}
-use Rattle.scope_rules.specs.History.{History, before, scope_numbers}
-use Rattle.scope_rules.specs.Scopes.{joined, covers}
-use Rattle.scope_rules.specs.Tasks.{has_tasks}
+use Rattle.std.specs.Prelude.{ℕ, ◌&&◌, ◌==◌, Bool, false, if◌then◌else◌, length, not, slice_get}
+use Rattle.scope_rules.specs.Words.{BeginClose, Event, Plain, Verdict, Violated, list_any, option_map_or}
+use Rattle.scope_rules.specs.{History.History, History.before, History.scope_numbers, Scopes.covers, Scopes.joined, Search.some_below, Tasks.has_tasks, declared.types.answers.Verdict.TheVariants.NotJoined}
 
 -- the beginning of the close of scope s, after h, covers scope t, which is another
 abbrev pub covers_other : History → ℕ → ℕ → Bool

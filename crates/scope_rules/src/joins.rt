@@ -1,7 +1,7 @@
 //! What a join answers, by what can be read of the scope's tasks.
 
 ghost use Rattle.std.specs.Prelude.{◌≡◌, IfOk};
-ghost use Rattle.scope_rules.specs.Answers.{is_available, value_in, outcome_of_end, outcome_or, answer_by, answer_at_expiry, answer_of};
+ghost use Rattle.scope_rules.specs.{answer_at_expiry, answer_by, answer_of, is_available, outcome_of_end, outcome_or, value_in};
 
 use crate::types::answers::{Cause, CauseKind, State};
 use crate::types::events::Expiry;

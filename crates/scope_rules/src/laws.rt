@@ -1,8 +1,8 @@
 //! Laws that hold of every history, above the definitions. Each function does nothing: its contract
 //! is the law.
 
-ghost use Rattle.scope_rules.specs.Laws.{OwnCancelStays, OwnCancelGrows, FirstCancelIsEarliest, ChainGoesOutwards, OuterIsSmaller, CauseStays, NumbersNeverFall, ScopeNumberStays, TaskNumberStays, ScopeNumberGivenOnce, TaskNumberGivenOnce};
-ghost use Rattle.scope_rules.specs.DeadlineLaws.{EffectiveIsLeast};
+ghost use Rattle.scope_rules.specs.{CauseStays, ChainGoesOutwards, EffectiveIsLeast, FirstCancelIsEarliest, NumbersNeverFall, OuterIsSmaller, OwnCancelGrows, OwnCancelStays, ScopeNumberGivenOnce, ScopeNumberStays};
+ghost use Rattle.scope_rules.specs.{TaskNumberGivenOnce, TaskNumberStays};
 
 pub mod bindings;
 pub mod closing;

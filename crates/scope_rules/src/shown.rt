@@ -1,7 +1,5 @@
 //! How names, values, ends and outcomes are shown: in the words of a script.
-ghost use Rattle.std.specs.Prelude.{Some};
-ghost use Rattle.scope_rules.specs.Names.{text_of};
-ghost use Rattle.scope_rules.specs.Texts.{end_text, fault_text, label_text, outcome_text, states_text, task_state_text, task_value_text, value_text, values_text};
+ghost use Rattle.scope_rules.specs.{Some, end_text, fault_text, label_text, outcome_text, states_text, task_state_text, task_value_text, text_of, value_text, values_text};
 
 use crate::types::answers::State;
 use crate::types::names::Name;

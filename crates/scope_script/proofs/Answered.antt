@@ -1,25 +1,12 @@
 -- From what the book answers of a command to its reply.
-use Rattle.std.proofs.Common.{◌≡◌, ℕ, ◌&&◌, Bool, true, false, Result, Ok, Err, refl, ap, sym, ◌∙◌, ◌⊎◌, inl, inr}
-use Rattle.std.specs.Prelude.{Option, Some, not, is_ok, if◌then◌else◌}
-use Rattle.scope_rules.specs.declared.types.events.Event.{Event}
+use Rattle.std.proofs.Common.{ℕ, ◌&&◌, ◌∙◌, ◌≡◌, ◌⊎◌, Bool, Err, Ok, Option, Result, Some, ap, false, if◌then◌else◌, inl, inr, is_ok, not, refl, sym, true}
+use Rattle.scope_script.specs.{Answers, AnswersOrMemory, AnswersValue, Checked, Do, Event, EventReply, History, Memory, Origin, Outcome, Performs, PerformsOrStops, Realm, Refusal, Reply, Retire, Tells, after, after_retiring}
+use Rattle.scope_script.specs.{after_telling, answering, base_of, check_of, event_reply_of, is_already, is_join, noted, outcome, outcome_check, passed_reply, realm_after, refused_or, replied, reply_of, reply_to, retire_check}
+use Rattle.scope_script.specs.{told_base, wants_memory, with_event}
 use Rattle.scope_rules.specs.declared.types.events.Event.TheVariants as event
-use Rattle.scope_rules.specs.declared.types.refusals.Refusal.{Refusal}
-use Rattle.scope_rules.specs.declared.types.refusals.Refusal.TheVariants.{Memory}
-use Rattle.scope_rules.specs.declared.types.outcomes.Outcome.{Outcome}
-use Rattle.scope_rules.specs.History.{History}
-use Rattle.scope_rules.specs.Origin.{Origin}
-use Rattle.scope_rules.specs.Outcomes.{outcome}
-use Rattle.scope_rules.specs.Checks.{Checked}
-use Rattle.scope_rules.specs.Replies.{Realm, Answers, AnswersOrMemory, AnswersValue, with_event, after, after_retiring, base_of, outcome_check}
-use Rattle.script_words.specs.declared.commands.Command.TheVariants.{Do, Retire}
-use Rattle.script_words.specs.declared.reply.Reply.{Reply}
 use Rattle.script_words.specs.declared.reply.Reply.TheVariants as reply
-use Rattle.scope_rules.specs.Table.{check_of, is_already, retire_check, answering}
-use Rattle.scope_checks.specs.declared.event_replies.EventReply.{EventReply}
 use Rattle.scope_checks.specs.declared.event_replies.EventReply.TheVariants as told
-use Rattle.scope_checks.specs.Entering.{Tells}
-use Rattle.scope_checks.specs.EventReplies.{event_reply_of as told_of_event, noted, after_telling, wants_memory}
-use Rattle.scope_script.specs.Replying.{replied, refused_or, event_reply_of, passed_reply, told_base, is_join, reply_of, reply_to, realm_after, Performs, PerformsOrStops}
+use Rattle.scope_checks.specs.EventReplies.{event_reply_of as told_of_event}
 
 -- what was told of a cancel or a close, as a reply
 noted_reply : (e : Event) (said : Reply) (already : Bool) → reply_of e told.Recorded ≡ said → reply_of e (noted already) ≡ (if already then reply.Already else said)

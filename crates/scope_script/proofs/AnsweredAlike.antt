@@ -1,27 +1,12 @@
 -- A command that names no number that was discarded is answered behind a retirement as without it.
-use Rattle.std.proofs.Common.{◌≡◌, ℕ, ◌+◌, false, cond, ok_or, List, [], ◌∷◌, ◌++◌, refl, ap, ◌∙◌, append_assoc, inl, inr}
-use Rattle.scope_rules.specs.declared.types.events.Event.{Event}
+use Rattle.std.proofs.Common.{[], ℕ, ◌++◌, ◌+◌, ◌∙◌, ◌∷◌, ◌≡◌, List, ap, append_assoc, cond, false, inl, inr, ok_or, refl}
+use Rattle.scope_script.specs.{AnswersAlike, Event, History, NamesNone, Never, NotBound, NotJoined, Query, Retirable, ScopeAlike, TaskAlike, Thread, actor_check, answer_to, answering, asks_let_go, binding_reply, bindings}
+use Rattle.scope_script.specs.{bound_to, cause, checked_then, counts, effective, event_reply_of, fault_reply, fault_shown, followed, is_already, is_cancelled, is_let_go, left, names_let_go, outcome, passed_reply, reading_check}
+use Rattle.scope_script.specs.{replied, result_reply, retired, scope_check, scopes, stage, state, task_check, tasks, unretired, until_check, value_shown}
+use Rattle.scope_script.proofs.Lemmas.{answers_alike, entry_of_push, or_left, or_right}
 use Rattle.scope_rules.specs.declared.types.events.Event.TheVariants as event
-use Rattle.scope_rules.specs.declared.types.refusals.Refusal.TheVariants.{NotBound, NotJoined}
-use Rattle.scope_rules.specs.declared.types.answers.ForkReply.TheVariants.{Thread, Never}
-use Rattle.scope_rules.specs.History.{History, followed, scopes, tasks}
-use Rattle.scope_rules.specs.Bindings.{bindings, bound_to}
-use Rattle.scope_rules.specs.Cancels.{cause, is_cancelled, effective}
-use Rattle.scope_rules.specs.Tasks.{stage, state, counts}
-use Rattle.scope_rules.specs.Outcomes.{outcome}
-use Rattle.scope_rules.specs.Checks.{scope_check, task_check, actor_check}
-use Rattle.scope_rules.specs.Table.{is_already, until_check, reading_check, checked_then, answering, value_shown, fault_shown}
-use Rattle.scope_rules.specs.Replies.{result_reply, fault_reply, binding_reply}
-use Rattle.scope_rules.proofs.Accepted.{or_left, or_right}
-use Rattle.script_words.specs.declared.commands.Query.{Query}
 use Rattle.script_words.specs.declared.commands.Query.TheVariants as query
 use Rattle.script_words.specs.declared.reply.Reply.TheVariants as reply
-use Rattle.scope_log.specs.Folding.{is_let_go, names_let_go, Retirable, left, unretired, retired, NamesNone}
-use Rattle.scope_log.specs.RetiringLaws.{AnswersAlike, ScopeAlike, TaskAlike}
-use Rattle.scope_log.proofs.Alike.{answers_alike}
-use Rattle.scope_rules.proofs.Pushing.{entry_of_push}
-use Rattle.scope_script.specs.Replying.{replied, event_reply_of, passed_reply, answer_to}
-use Rattle.scope_script.specs.Retiring.{asks_let_go}
 
 -- one event more
 pub event_more : (r : Retirable) (es : List Event) (e : Event) → followed (unretired r es) e ≡ unretired r (es ++ e ∷ [])

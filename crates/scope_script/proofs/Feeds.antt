@@ -1,11 +1,7 @@
 -- Where the first line feed stands.
-use Rattle.std.proofs.Common.{◌≡◌, ℕ, ◌+◌, ◌<◌, ◌≤◌, true, false, List, ◌∷◌, ◌++◌, length, get_or, take, drop, sym, ◌∙◌, ap, arith}
-use Rattle.std.proofs.lemmas.Bool.Decides.{nat_tests}
-use Rattle.std.proofs.lemmas.List.{drop_more, get_or-take, length-take-le, take-append-drop}
-use Rattle.std.proofs.lemmas.List.Elements.{All-from_get_or}
-use Rattle.std.proofs.lemmas.List.Folds.{list_any_none}
-use Rattle.memchr.specs.Find.{Nowhere, NoneBefore, Passes}
-use Rattle.scope_script.specs.Cutting.{is_feed, has_feed, CutsLine}
+use Rattle.std.proofs.Common.{ℕ, ◌++◌, ◌+◌, ◌<◌, ◌∙◌, ◌∷◌, ◌≡◌, ◌≤◌, List, ap, arith, drop, false, get_or, length, sym, take, true}
+use Rattle.scope_script.specs.{CutsLine, NoneBefore, Nowhere, Passes, has_feed, is_feed}
+use Rattle.scope_script.proofs.Lemmas.{All-from_get_or, drop_more, get_or-take, length-take-le, list_any_none, nat_tests, take-append-drop}
 
 not_feed : (b : ℕ) → (is_feed b ≡ true → ⊥) → is_feed b ≡ false
 not_feed b other = grind (arith, nat_tests)

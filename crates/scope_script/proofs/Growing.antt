@@ -1,11 +1,7 @@
 -- What is kept of a line as it grows, by one byte or by several.
-use Rattle.std.proofs.Common.{◌≡◌, ◌≢◌, ◌⊎◌, inl, inr, ℕ, ◌+◌, ◌<◌, ◌≤◌, Bool, true, false, Some, None, List, [], ◌∷◌, ◌++◌, length, refl, ap, sym, ◌∙◌, arith, length-append, nat_lt, append_assoc, append-nil}
-use Rattle.std.specs.Prelude.{if◌then◌else◌}
-use Rattle.std.proofs.lemmas.Bool.{ltb-true, ltb-false, lt-ltb, le-ltb}
-use Rattle.script_words.specs.declared.commands.Line.TheVariants.{BadWord}
-use Rattle.script_words.specs.declared.lines.TheConstants.{LINE_LIMIT}
-use Rattle.script_words.specs.Lines.{line_said}
-use Rattle.scope_script.specs.KeptLines.{kept, grown, grown_by, said}
+use Rattle.std.proofs.Common.{[], ℕ, ◌++◌, ◌+◌, ◌<◌, ◌∙◌, ◌∷◌, ◌≡◌, ◌≢◌, ◌≤◌, ◌⊎◌, Bool, List, None, Some, ap, append-nil, append_assoc, arith, false, if◌then◌else◌, inl, inr, length, length-append, nat_lt, refl, sym, true}
+use Rattle.scope_script.specs.{BadWord, LINE_LIMIT, grown, grown_by, kept, line_said, said}
+use Rattle.scope_script.proofs.Lemmas.{le-ltb, lt-ltb, ltb-false, ltb-true}
 
 -- a line of more bytes than it may have is a bad word
 long_said : (line : List ℕ) → nat_lt LINE_LIMIT (length line) ≡ true → line_said line ≡ BadWord

@@ -1,18 +1,8 @@
 -- A script that is taken byte by byte is answered as its lines are.
-use Rattle.std.proofs.Common.{◌≡◌, ℕ, ◌==◌, Bool, true, false, List, [], ◌∷◌, ◌++◌, length, refl, ap, sym, ◌∙◌, nat_lt}
-use Rattle.std.specs.Prelude.{if◌then◌else◌}
-use Rattle.scope_rules.specs.declared.types.capacity.Limits.{Limits}
-use Rattle.scope_rules.specs.Origin.{the_start}
-use Rattle.scope_rules.specs.Replies.{Realm, starting}
-use Rattle.script_words.specs.declared.lines.TheConstants.{LINE_LIMIT}
-use Rattle.script_words.specs.Lines.{line_said}
-use Rattle.scope_script.specs.Cutting.{ended_lines, begun_line}
-use Rattle.scope_script.specs.KeptLines.{kept}
-use Rattle.scope_script.specs.Sessions.{line_reply, realm_after_line, replies_to, realm_after_lines, cut_reply, replies_of, realm_of_script}
-use Rattle.scope_script.specs.Tallies.{no_refusals, tally_after_line, tally_after_lines, tally_of_script, with_bad_word, with_cut}
-use Rattle.scope_script.specs.declared.session.tally.Tally.{Tally}
-use Rattle.scope_script.specs.ByBytes.{Session, after_byte, byte_reply, after_bytes, bytes_reply, end_reply, end_tally, the_beginning}
-use Rattle.scope_script.proofs.Growing.{said_kept, grown_kept, none_kept}
+use Rattle.std.proofs.Common.{[], ℕ, ◌++◌, ◌==◌, ◌∙◌, ◌∷◌, ◌≡◌, Bool, List, ap, false, if◌then◌else◌, length, nat_lt, refl, sym, true}
+use Rattle.scope_script.specs.{LINE_LIMIT, Limits, Realm, Session, Tally, after_byte, after_bytes, begun_line, byte_reply, bytes_reply, cut_reply, end_reply, end_tally, ended_lines, kept, line_reply, line_said, no_refusals}
+use Rattle.scope_script.specs.{realm_after_line, realm_after_lines, realm_of_script, replies_of, replies_to, starting, tally_after_line, tally_after_lines, tally_of_script, the_beginning, the_start, with_bad_word, with_cut}
+use Rattle.scope_script.proofs.Growing.{grown_kept, none_kept, said_kept}
 
 -- a session that has begun this line
 on_line : Realm → Tally → List ℕ → Session

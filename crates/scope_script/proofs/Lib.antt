@@ -9,3 +9,4 @@ pub mod Kept
 pub mod Progress
 pub mod AnsweredAlike
 pub mod Retiring
+mod Lemmas

@@ -1,18 +1,9 @@
 -- How a run comes on: what it has read, written and left behind.
-use Rattle.std.proofs.Common.{◌≡◌, ℕ, Option, Some, List, [], refl, ◌++◌, ap, sym, ◌∙◌, subst, append_assoc, append-nil, take}
-use Rattle.std.specs.Io.KnownBytes.{Appends, Consumes, IsAtEnd, Keeps}
-use Rattle.std.proofs.KnownBytes.{Appends-trans, Appends-nil, Consumes-trans, Consumes-nil, Consumes-kept}
-use Rattle.scope_rules.specs.declared.types.capacity.Limits.{Limits}
-use Rattle.scope_rules.specs.Replies.{Realm}
-use Rattle.scope_script.specs.declared.session.run.Mode.{Mode}
-use Rattle.scope_script.specs.Streams.{AppendsPart}
-use Rattle.scope_script.specs.Sessions.{shown, realm_of_script, replies_of}
-use Rattle.scope_script.specs.ByBytes.{Session, the_beginning, after_bytes, bytes_reply, end_reply, end_tally}
-use Rattle.scope_script.specs.Running.{RunsToEnd, RunsTallied, RunsText, RunsPartly}
-use Rattle.scope_script.specs.Tallies.{tally_of_script}
-use Rattle.scope_script.specs.declared.session.tally.Tally.{Tally}
-use Rattle.scope_script.proofs.Scripts.{shown_append, after_append, told_more, after_none, reply_none}
-use Rattle.scope_script.proofs.Kept.{script_replies, script_leaves, script_tallies}
+use Rattle.std.proofs.Common.{[], ℕ, ◌++◌, ◌∙◌, ◌≡◌, List, Option, Some, ap, append-nil, append_assoc, refl, subst, sym, take}
+use Rattle.scope_script.specs.{Appends, AppendsPart, Consumes, IsAtEnd, Keeps, Limits, Mode, Realm, RunsPartly, RunsTallied, RunsText, RunsToEnd, Session, Tally, after_bytes, bytes_reply, end_reply, end_tally, realm_of_script}
+use Rattle.scope_script.specs.{replies_of, shown, tally_of_script, the_beginning}
+use Rattle.scope_script.proofs.Lemmas.{Appends-nil, Appends-trans, Consumes-kept, Consumes-nil, Consumes-trans}
+use Rattle.scope_script.proofs.{Kept.script_leaves, Kept.script_replies, Kept.script_tallies, Scripts.after_append, Scripts.after_none, Scripts.reply_none, Scripts.shown_append, Scripts.told_more}
 
 -- the run is under way: it answered all that it read so far
 pub record UnderWay (unread unread_now written written_now : Option (List ℕ)) (mode : Mode) (L : Limits) (now : Session) : Type 0 where

@@ -1,21 +1,10 @@
 -- That want of memory is no reply: a command that would be told so leaves the realm as it was.
-use Rattle.std.proofs.Common.{◌≡◌, ◌&&◌, Bool, true, false, Ok, Err, refl, sym, ◌∙◌, subst, inl, inr}
-use Rattle.std.specs.Prelude.{Option, Some, None, ok_or, not, is_ok, if◌then◌else◌}
-use Rattle.scope_rules.specs.declared.types.events.Event.{Event}
-use Rattle.scope_rules.specs.declared.types.events.Event.TheVariants as event
-use Rattle.scope_rules.specs.declared.types.refusals.Refusal.TheVariants.{Memory, NotJoined}
-use Rattle.scope_rules.specs.declared.types.outcomes.Outcome.{Outcome}
-use Rattle.scope_rules.specs.Origin.{Origin}
-use Rattle.scope_rules.specs.History.{History, followed}
-use Rattle.scope_rules.specs.Outcomes.{outcome}
-use Rattle.scope_rules.specs.Checks.{Checked}
-use Rattle.scope_rules.specs.Replies.{Realm, with_event, after_retiring, base_of}
+use Rattle.std.proofs.Common.{◌&&◌, ◌∙◌, ◌≡◌, Bool, Err, None, Ok, Option, Some, false, if◌then◌else◌, inl, inr, is_ok, not, ok_or, refl, subst, sym, true}
 use Rattle.script_words.specs.declared.commands.Command.{Command}
-use Rattle.script_words.specs.declared.commands.Command.TheVariants.{Do, Retire, Ask}
-use Rattle.script_words.specs.declared.reply.Reply.{Reply}
+use Rattle.scope_script.specs.{Ask, Checked, Do, Event, History, Memory, NotJoined, Origin, Outcome, Performs, PerformsOrStops, Realm, Reply, Retire, after_retiring, answering, base_of, check_of, event_reply_of, followed}
+use Rattle.scope_script.specs.{is_already, is_join, outcome, realm_after, realm_stopped, refused_or, replied, reply_to, retire_check, told_base, with_event}
+use Rattle.scope_rules.specs.declared.types.events.Event.TheVariants as event
 use Rattle.script_words.specs.declared.reply.Reply.TheVariants as reply
-use Rattle.scope_rules.specs.Table.{check_of, is_already, retire_check, answering}
-use Rattle.scope_script.specs.Replying.{replied, refused_or, event_reply_of, told_base, is_join, reply_to, realm_after, realm_stopped, Performs, PerformsOrStops}
 
 outcome_is_told : (o : Option Outcome) → replied reply.Outcome (ok_or o NotJoined) ≡ reply.Refused Memory → ⊥
 outcome_is_told (Some x) is = cc

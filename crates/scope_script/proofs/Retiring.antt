@@ -1,31 +1,11 @@
 -- The run of a list of commands with its retirements, beside its run without them.
-use Rattle.std.proofs.Common.{◌≡◌, ℕ, ◌&&◌, Bool, true, false, not, cond, Option, Some, None, Ok, Err, is_ok, is_some, List, [], ◌∷◌, ◌++◌, refl, ap, sym, subst, ◌∙◌, inl, inr}
-use Rattle.std.proofs.lemmas.List.{append-nil}
-use Rattle.std.specs.List.{list_any}
-use Rattle.scope_rules.specs.declared.types.capacity.Limits.{Limits}
-use Rattle.scope_rules.specs.declared.types.events.Event.{Event}
-use Rattle.scope_rules.specs.declared.types.refusals.Refusal.TheVariants.{TooMany}
-use Rattle.scope_rules.specs.Origin.{the_start}
-use Rattle.scope_rules.specs.Search.{last_of, latest}
-use Rattle.scope_rules.specs.History.{History, moment}
-use Rattle.scope_rules.specs.Scopes.{innermost}
-use Rattle.scope_rules.specs.Bindings.{stack}
-use Rattle.scope_rules.specs.Legal.{Legal, Accepts}
-use Rattle.scope_rules.specs.Checks.{Checked}
-use Rattle.scope_rules.specs.Table.{check_of, is_already, retire_check}
-use Rattle.scope_rules.specs.Replies.{Realm, starting, with_event, after_retiring, base_of}
-use Rattle.scope_rules.proofs.Accepted.{checks_at, not_refused, or_left, or_right}
-use Rattle.scope_rules.proofs.Pushing.{legal_push}
+use Rattle.std.proofs.Common.{[], ℕ, ◌&&◌, ◌++◌, ◌∙◌, ◌∷◌, ◌≡◌, Bool, Err, List, None, Ok, Option, Some, ap, cond, false, inl, inr, is_ok, is_some, not, refl, subst, sym, true}
 use Rattle.script_words.specs.declared.commands.Command.{Command}
-use Rattle.script_words.specs.declared.commands.Query.{Query}
-use Rattle.script_words.specs.declared.commands.Command.TheVariants.{Do, Retire, Ask}
-use Rattle.script_words.specs.declared.reply.Reply.{Reply}
-use Rattle.scope_log.specs.Folding.{names_let_go, Retirable, left, unretired, retired, NamesNone}
-use Rattle.scope_log.proofs.Alike.{answers_alike, retired_again}
-use Rattle.scope_log.proofs.Nested.{same_innermost}
-use Rattle.scope_script.specs.Replying.{reply_to, realm_after, realm_after_all, refused_or, passed_reply}
-use Rattle.scope_script.specs.Retiring.{tells_let_go, tell_let_go, is_retirement, asks_let_go, without_retirements, replies_in_turn, replies_aside, lines_of, is_too_many, fresh, RetiresFreely, RepliesStay, ReplyTextStays}
-use Rattle.scope_script.proofs.AnsweredAlike.{event_more, names_more, passed_alike, answers_to}
+use Rattle.scope_script.specs.{Accepts, Ask, Checked, Do, Event, History, Legal, Limits, NamesNone, Query, Realm, RepliesStay, Reply, ReplyTextStays, Retirable, Retire, RetiresFreely, TooMany, after_retiring, asks_let_go, base_of}
+use Rattle.scope_script.specs.{check_of, fresh, innermost, is_already, is_retirement, is_too_many, last_of, latest, left, lines_of, list_any, moment, names_let_go, passed_reply, realm_after, realm_after_all, refused_or}
+use Rattle.scope_script.specs.{replies_aside, replies_in_turn, reply_to, retire_check, retired, stack, starting, tell_let_go, tells_let_go, the_start, unretired, with_event, without_retirements}
+use Rattle.scope_script.proofs.Lemmas.{answers_alike, append-nil, checks_at, legal_push, not_refused, or_left, or_right, retired_again, same_innermost}
+use Rattle.scope_script.proofs.AnsweredAlike.{answers_to, event_more, names_more, passed_alike}
 
 -- what was retired of the run so far, and what came since
 pub record Folded : Type 0 where

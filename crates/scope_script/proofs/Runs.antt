@@ -1,12 +1,8 @@
 -- Runs of commands that are put together.
-use Rattle.std.proofs.Common.{◌≡◌, ℕ, suc, ◌+◌, ◌<◌, Some, List, [], ◌∷◌, ◌++◌, length, take, drop, slice_get, get_or, refl, ap, sym, ◌∙◌, add-one}
-use Rattle.std.proofs.Math.Seq.{drop-cons}
-use Rattle.std.proofs.lemmas.List.{take-append-drop}
-use Rattle.std.proofs.lemmas.Option.{slice_get_within, get_or_from_slice_get}
-use Rattle.scope_rules.specs.Replies.{Realm}
-use Rattle.scope_rules.proofs.Prefixes.{take_at}
+use Rattle.std.proofs.Common.{[], ℕ, ◌++◌, ◌+◌, ◌<◌, ◌∙◌, ◌∷◌, ◌≡◌, List, Some, add-one, ap, drop, get_or, length, refl, slice_get, suc, sym, take}
 use Rattle.script_words.specs.declared.commands.Command.{Command}
-use Rattle.scope_script.specs.Replying.{realm_after, realm_stopped, realm_after_all, StopsAmong}
+use Rattle.scope_script.specs.{Realm, StopsAmong, realm_after, realm_after_all, realm_stopped}
+use Rattle.scope_script.proofs.Lemmas.{drop-cons, get_or_from_slice_get, slice_get_within, take-append-drop, take_at}
 
 pub realm_after_more : (realm : Realm) (xs : List Command) (x : Command) → realm_after_all realm (xs ++ x ∷ []) ≡ realm_after (realm_after_all realm xs) x
 unfolding realm_after_all

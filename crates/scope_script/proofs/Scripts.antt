@@ -1,9 +1,6 @@
 -- Scripts that are put together.
-use Rattle.std.proofs.Common.{◌≡◌, ℕ, List, [], ◌∷◌, ◌++◌, refl, ap, sym, ◌∙◌, append_assoc, append-nil}
-use Rattle.scope_script.specs.declared.session.run.Mode.{Mode}
-use Rattle.scope_script.specs.declared.session.run.Mode.TheVariants.{Replies, Quiet}
-use Rattle.scope_script.specs.Sessions.{shown}
-use Rattle.scope_script.specs.ByBytes.{Session, after_byte, byte_reply, after_bytes, bytes_reply}
+use Rattle.std.proofs.Common.{[], ℕ, ◌++◌, ◌∙◌, ◌∷◌, ◌≡◌, List, ap, append-nil, append_assoc, refl, sym}
+use Rattle.scope_script.specs.{Mode, Quiet, Replies, Session, after_byte, after_bytes, byte_reply, bytes_reply, shown}
 
 pub shown_append : (mode : Mode) (xs ys : List ℕ) → shown mode (xs ++ ys) ≡ shown mode xs ++ shown mode ys
 shown_append Replies xs ys = refl

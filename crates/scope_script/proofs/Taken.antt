@@ -1,15 +1,8 @@
 -- Lines that are taken out of a piece at once leave and are answered what their bytes are.
-use Rattle.std.proofs.Common.{◌≡◌, ℕ, ◌==◌, false, Some, List, [], ◌∷◌, ◌++◌, refl, ap, sym, ◌∙◌, append_assoc, append-nil}
-use Rattle.std.proofs.lemmas.Bool.{or_parts}
-use Rattle.script_words.specs.declared.commands.Line.{Line}
-use Rattle.scope_script.specs.declared.session.run.Mode.{Mode}
-use Rattle.scope_script.specs.Cutting.{has_feed, CutsLine}
-use Rattle.scope_script.specs.KeptLines.{grown, grown_by, said}
-use Rattle.scope_script.specs.Sessions.{line_reply, realm_after_line, shown}
-use Rattle.scope_script.specs.Tallies.{tally_after_line}
-use Rattle.scope_script.specs.ByBytes.{Session, after_byte, byte_reply, after_bytes, bytes_reply}
-use Rattle.scope_script.specs.Streams.{AppendsPart}
-use Rattle.scope_script.proofs.Scripts.{after_append, reply_append, told_more, after_none, shown_nothing, reply_none}
+use Rattle.std.proofs.Common.{[], ℕ, ◌++◌, ◌==◌, ◌∙◌, ◌∷◌, ◌≡◌, List, Some, ap, append-nil, append_assoc, false, refl, sym}
+use Rattle.scope_script.specs.{AppendsPart, CutsLine, Line, Mode, Session, after_byte, after_bytes, byte_reply, bytes_reply, grown, grown_by, has_feed, line_reply, realm_after_line, said, shown, tally_after_line}
+use Rattle.scope_script.proofs.Lemmas.{or_parts}
+use Rattle.scope_script.proofs.Scripts.{after_append, after_none, reply_append, reply_none, shown_nothing, told_more}
 
 -- a session whose line has gone on by the bytes
 gone_on : Session → List ℕ → Session

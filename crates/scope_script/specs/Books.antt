@@ -1,6 +1,5 @@
 -- What a script of the code stands for.
-use Rattle.scope_book.specs.Books.{realm_of}
-use Rattle.scope_script.specs.declared.session.script.Script.{Script}
+use Rattle.scope_script.specs.Words.{Script, realm_of}
 use Rattle.scope_script.specs.ByBytes.{Session}
 
 abbrev pub session_of : {g : _} {f : _} {m : _} → Script g f m → Session

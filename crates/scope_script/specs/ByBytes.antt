@@ -1,12 +1,8 @@
 -- A script that comes byte by byte: what is kept of it, and what each byte is answered.
-use Rattle.std.specs.Prelude.{ℕ, ◌==◌, Some, List, [], ◌∷◌, ◌++◌, if◌then◌else◌}
-use Rattle.scope_rules.specs.declared.types.capacity.Limits.{Limits}
-use Rattle.scope_rules.specs.Origin.{the_start}
-use Rattle.scope_rules.specs.Replies.{Realm, starting}
-use Rattle.scope_script.specs.KeptLines.{KeptLine, grown, said, is_blank}
-use Rattle.scope_script.specs.Sessions.{bad_word_line, line_reply, realm_after_line}
-use Rattle.scope_script.specs.Tallies.{no_refusals, tally_after_line, with_bad_word}
-use Rattle.scope_script.specs.declared.session.tally.Tally.{Tally}
+use Rattle.std.specs.Prelude.{[], ℕ, ◌++◌, ◌==◌, ◌∷◌, List, Some, if◌then◌else◌}
+use Rattle.scope_script.specs.Words.{Limits, Realm, Tally, starting, the_start}
+use Rattle.scope_script.specs.{KeptLines.KeptLine, KeptLines.grown, KeptLines.is_blank, KeptLines.said, Sessions.bad_word_line, Sessions.line_reply, Sessions.realm_after_line, Tallies.no_refusals, Tallies.tally_after_line}
+use Rattle.scope_script.specs.{Tallies.with_bad_word}
 
 -- a script under way: the realm, how many lines were refused, and the line that is begun
 pub record Session : Type 0 where

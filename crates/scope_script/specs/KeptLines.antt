@@ -1,9 +1,6 @@
 -- What is kept of a line that comes byte by byte.
-use Rattle.std.specs.Prelude.{ℕ, Bool, true, false, nat_lt, Option, Some, None, List, [], ◌∷◌, ◌++◌, length, if◌then◌else◌}
-use Rattle.script_words.specs.declared.commands.Line.{Line}
-use Rattle.script_words.specs.declared.commands.Line.TheVariants.{BadWord}
-use Rattle.script_words.specs.declared.lines.TheConstants.{LINE_LIMIT}
-use Rattle.script_words.specs.Lines.{line_said}
+use Rattle.std.specs.Prelude.{[], ℕ, ◌++◌, ◌∷◌, Bool, List, None, Option, Some, false, if◌then◌else◌, length, nat_lt, true}
+use Rattle.script_words.specs.{Lines.line_said, declared.commands.Line.Line, declared.commands.Line.TheVariants.BadWord, declared.lines.TheConstants.LINE_LIMIT}
 
 -- a line as it is kept: its bytes, or none if they are more than a line may have
 abbrev pub KeptLine : Type 0

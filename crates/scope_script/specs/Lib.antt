@@ -21,3 +21,15 @@ pub mod Books
 pub mod Streams
 pub mod Running
 pub mod Retiring
+pub mod Words
+unfoldable pub use Words.*
+pub use Books.*
+unfoldable pub use ByBytes.*
+unfoldable pub use Cutting.*
+unfoldable pub use KeptLines.*
+unfoldable pub use Replying.*
+unfoldable pub use Retiring.*
+pub use Running.*
+unfoldable pub use Sessions.*
+pub use Streams.*
+unfoldable pub use Tallies.*

@@ -1,25 +1,11 @@
 -- What a command is answered in a realm, and what it leaves of it.
-use Rattle.std.specs.Prelude.{◌≡◌, ◌⊎◌, Bool, true, false, not, ◌&&◌, ok_or, List, [], ◌∷◌, ◌++◌, Result, Ok, Err, is_ok, if◌then◌else◌}
-use Rattle.scope_rules.specs.declared.types.events.Event.{Event}
-use Rattle.scope_rules.specs.declared.types.events.Event.TheVariants as event
-use Rattle.scope_rules.specs.declared.types.refusals.Refusal.{Refusal}
-use Rattle.scope_rules.specs.declared.types.refusals.Refusal.TheVariants.{Memory, NotJoined}
-use Rattle.scope_rules.specs.History.{History, followed}
-use Rattle.scope_rules.specs.Origin.{Origin}
-use Rattle.scope_rules.specs.Cancels.{cause, effective}
-use Rattle.scope_rules.specs.Tasks.{stage, state, counts}
-use Rattle.scope_rules.specs.Outcomes.{outcome}
-use Rattle.scope_rules.specs.Verdicts.{verdict}
-use Rattle.scope_rules.specs.Checks.{Checked, scope_check, task_check}
-use Rattle.scope_rules.specs.Replies.{Realm, with_event, after_retiring, next_scope, fork_reply, base_of, result_reply, fault_reply, binding_reply}
-use Rattle.scope_rules.specs.Table.{check_of, is_already, retire_check, until_check, answering}
-use Rattle.scope_checks.specs.declared.event_replies.EventReply.{EventReply}
-use Rattle.scope_checks.specs.declared.event_replies.EventReply.TheVariants as told
+use Rattle.std.specs.Prelude.{[], ◌&&◌, ◌++◌, ◌∷◌, ◌≡◌, ◌⊎◌, Bool, Err, List, Ok, Result, false, if◌then◌else◌, is_ok, not, ok_or, true}
 use Rattle.script_words.specs.declared.commands.Command.{Command}
-use Rattle.script_words.specs.declared.commands.Command.TheVariants.{Do, Retire, Ask}
-use Rattle.script_words.specs.declared.commands.Query.{Query}
+use Rattle.scope_script.specs.Words.{Ask, Checked, Do, Event, EventReply, History, Memory, NotJoined, Origin, Query, Realm, Refusal, Reply, Retire, after_retiring, answering, base_of, binding_reply, cause, check_of, counts}
+use Rattle.scope_script.specs.Words.{effective, fault_reply, followed, fork_reply, is_already, next_scope, outcome, result_reply, retire_check, scope_check, stage, state, task_check, until_check, verdict, with_event}
+use Rattle.scope_rules.specs.declared.types.events.Event.TheVariants as event
+use Rattle.scope_checks.specs.declared.event_replies.EventReply.TheVariants as told
 use Rattle.script_words.specs.declared.commands.Query.TheVariants as query
-use Rattle.script_words.specs.declared.reply.Reply.{Reply}
 use Rattle.script_words.specs.declared.reply.Reply.TheVariants as reply
 
 -- the reply to what was answered

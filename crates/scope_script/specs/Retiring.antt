@@ -1,19 +1,10 @@
 -- A list of commands with its retirements, and the same without them.
-use Rattle.std.specs.Prelude.{◌≡◌, ℕ, ◌||◌, Bool, true, false, not, List, [], ◌∷◌, ◌++◌, if◌then◌else◌}
-use Rattle.std.specs.List.{list_any, filter, flat_map}
-use Rattle.scope_rules.specs.declared.types.capacity.Limits.{Limits}
-use Rattle.scope_rules.specs.declared.types.refusals.Refusal.TheVariants as refusal
-use Rattle.scope_rules.specs.Origin.{Origin, the_start}
-use Rattle.scope_rules.specs.Replies.{Realm, starting}
+use Rattle.std.specs.Prelude.{[], ℕ, ◌++◌, ◌||◌, ◌∷◌, ◌≡◌, Bool, List, false, if◌then◌else◌, not, true}
 use Rattle.script_words.specs.declared.commands.Command.{Command}
-use Rattle.script_words.specs.declared.commands.Command.TheVariants.{Do, Retire, Ask}
-use Rattle.script_words.specs.declared.commands.Query.{Query}
+use Rattle.scope_script.specs.Words.{Ask, Do, Limits, Origin, Query, Realm, Refused, Reply, Retire, filter, flat_map, is_let_go, list_any, names_let_go, reply_text, starting, the_start}
+use Rattle.scope_script.specs.Replying.{realm_after, reply_to}
+use Rattle.scope_rules.specs.declared.types.refusals.Refusal.TheVariants as refusal
 use Rattle.script_words.specs.declared.commands.Query.TheVariants as query
-use Rattle.script_words.specs.declared.reply.Reply.{Reply}
-use Rattle.script_words.specs.declared.reply.Reply.TheVariants.{Refused}
-use Rattle.script_words.specs.ReplyText.{reply_text}
-use Rattle.scope_log.specs.Folding.{is_let_go, names_let_go}
-use Rattle.scope_script.specs.Replying.{reply_to, realm_after}
 
 -- the query names a scope or a task that was discarded
 abbrev pub asks_let_go : Origin → Query → Bool

@@ -1,13 +1,7 @@
 -- What a run of a script has read, written and left behind.
-use Rattle.std.specs.Prelude.{◌≡◌, ℕ, Option, List}
-use Rattle.std.specs.Io.KnownBytes.{Appends, Consumes, IsAtEnd}
-use Rattle.scope_rules.specs.declared.types.capacity.Limits.{Limits}
-use Rattle.scope_rules.specs.Replies.{Realm}
-use Rattle.scope_script.specs.declared.session.run.Mode.{Mode}
-use Rattle.scope_script.specs.Streams.{AppendsPart}
-use Rattle.scope_script.specs.Sessions.{shown, replies_of, realm_of_script}
-use Rattle.scope_script.specs.Tallies.{tally_of_script}
-use Rattle.scope_script.specs.declared.session.tally.Tally.{Tally}
+use Rattle.std.specs.Prelude.{ℕ, ◌≡◌, List, Option}
+use Rattle.scope_script.specs.Words.{Appends, Consumes, IsAtEnd, Limits, Mode, Realm, Tally}
+use Rattle.scope_script.specs.{Sessions.realm_of_script, Sessions.replies_of, Sessions.shown, Streams.AppendsPart, Tallies.tally_of_script}
 
 -- the run came to the end of its script: it read all bytes, wrote exactly the replies to them, and
 -- left the realm that they leave

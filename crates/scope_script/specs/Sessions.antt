@@ -1,18 +1,9 @@
 -- What a script is answered: the replies to its lines, and what they leave of the realm.
-use Rattle.std.specs.Prelude.{ℕ, List, [], ◌∷◌, ◌++◌}
-use Rattle.scope_rules.specs.declared.types.capacity.Limits.{Limits}
+use Rattle.std.specs.Prelude.{[], ℕ, ◌++◌, ◌∷◌, List}
+use Rattle.script_words.specs.declared.commands.Line.TheVariants.{Command}
+use Rattle.scope_script.specs.Words.{BadWord, Limits, Line, Mode, Quiet, Realm, Refused, Replies, Silent, line_said, reply_text, starting, the_start}
+use Rattle.scope_script.specs.{Cutting.begun_line, Cutting.ended_lines, Replying.realm_after, Replying.reply_to}
 use Rattle.scope_rules.specs.declared.types.refusals.Refusal.TheVariants.{BadWord as bad_word}
-use Rattle.scope_rules.specs.Origin.{the_start}
-use Rattle.scope_rules.specs.Replies.{Realm, starting}
-use Rattle.script_words.specs.declared.commands.Line.{Line}
-use Rattle.script_words.specs.declared.commands.Line.TheVariants.{Silent, BadWord, Command}
-use Rattle.script_words.specs.declared.reply.Reply.TheVariants.{Refused}
-use Rattle.scope_script.specs.declared.session.run.Mode.{Mode}
-use Rattle.scope_script.specs.declared.session.run.Mode.TheVariants.{Replies, Quiet}
-use Rattle.script_words.specs.ReplyText.{reply_text}
-use Rattle.script_words.specs.Lines.{line_said}
-use Rattle.scope_script.specs.Replying.{reply_to, realm_after}
-use Rattle.scope_script.specs.Cutting.{ended_lines, begun_line}
 
 -- the line `refused 18 bad-word`
 abbrev pub bad_word_line : List ℕ

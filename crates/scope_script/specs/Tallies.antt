@@ -1,17 +1,8 @@
 -- How many lines of a script are refused.
-use Rattle.std.specs.Prelude.{ℕ, ◌==◌, ◌+◌, Bool, true, false, List, [], ◌∷◌, if◌then◌else◌}
-use Rattle.scope_rules.specs.declared.types.capacity.Limits.{Limits}
-use Rattle.scope_rules.specs.Origin.{the_start}
-use Rattle.scope_rules.specs.Replies.{Realm, starting}
-use Rattle.script_words.specs.declared.commands.Line.{Line}
-use Rattle.script_words.specs.declared.commands.Line.TheVariants.{Silent, BadWord, Command}
-use Rattle.script_words.specs.Lines.{line_said}
-use Rattle.script_words.specs.declared.reply.Reply.{Reply}
-use Rattle.script_words.specs.declared.reply.Reply.TheVariants.{Refused}
-use Rattle.scope_script.specs.declared.session.tally.Tally.{Tally}
-use Rattle.scope_script.specs.Cutting.{ended_lines, begun_line}
-use Rattle.scope_script.specs.Replying.{reply_to}
-use Rattle.scope_script.specs.Sessions.{realm_after_line}
+use Rattle.std.specs.Prelude.{[], ℕ, ◌+◌, ◌==◌, ◌∷◌, Bool, List, false, if◌then◌else◌, true}
+use Rattle.script_words.specs.declared.commands.Line.TheVariants.{Command}
+use Rattle.scope_script.specs.Words.{BadWord, Limits, Line, Realm, Refused, Reply, Silent, Tally, line_said, starting, the_start}
+use Rattle.scope_script.specs.{Cutting.begun_line, Cutting.ended_lines, Replying.reply_to, Sessions.realm_after_line}
 
 -- none so far
 abbrev pub no_refusals : Tally

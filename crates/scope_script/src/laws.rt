@@ -1,6 +1,6 @@
 //! The law of retirement over scripts. The function does nothing: its contract is the law.
 
-ghost use Rattle.scope_script.specs.Retiring.{RepliesStay, ReplyTextStays};
+ghost use Rattle.scope_script.specs.{RepliesStay, ReplyTextStays};
 
 /// A retirement changes no reply but its own. If a list of commands without its retirements meets no
 /// limit, and no command behind an accepted retirement names a number that was discarded, the replies and

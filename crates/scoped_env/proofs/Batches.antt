@@ -1,17 +1,8 @@
 -- What lists of pairs are together, and what an environment keeps after a bind and an unbind.
-use Rattle.std.proofs.Common.{◌≡◌, ℕ, true, false, zero, suc, ◌+◌, ◌-◌, ◌≤◌, Option, Some, None, List, [], ◌∷◌, ◌++◌, length, take, drop, slice_get, ◌<◌, refl, ap, sym, subst, ◌∙◌, arith, append_assoc, append-nil, length-append}
-use Rattle.std.specs.Option.{IfSome, option_or, is_some}
-use Rattle.std.proofs.lemmas.List.{take-append-le, length-take, take_all, take_min, take-append-drop}
-use Rattle.std.proofs.Math.Seq.{take-append-add, take-append_seam, take-add}
-use Rattle.scope_rules.specs.declared.types.events.Binding.{Binding}
-use Rattle.scope_rules.specs.declared.types.names.Name.{Name}
-use Rattle.scope_rules.specs.declared.types.values.Value.{Value}
-use Rattle.scope_rules.specs.Bindings.{bound_to, without_last}
-use Rattle.scope_rules.proofs.Stacks.{bound_to_append}
+use Rattle.std.proofs.Common.{[], ℕ, ◌++◌, ◌+◌, ◌-◌, ◌<◌, ◌∙◌, ◌∷◌, ◌≡◌, ◌≤◌, List, None, Option, Some, ap, append-nil, append_assoc, arith, drop, false, length, length-append, refl, slice_get, subst, suc, sym, take, true, zero}
+use Rattle.scoped_env.specs.{BeginsWith, Binding, IfSome, Keeps, Name, Value, bound_to, is_some, joined, option_or, without_last}
+use Rattle.scoped_env.proofs.Words.{bound_to_append, length-drop, length-take, take-add, take-append-add, take-append-drop, take-append-le, take-append_seam, take_all, take_at, take_min}
 use Rattle.scoped_env.proofs.Indexing.{none_bound, within_get}
-use Rattle.scope_rules.proofs.Prefixes.{take_at}
-use Rattle.std.proofs.Math.ListN.{length-drop}
-use Rattle.scoped_env.specs.Joined.{joined, BeginsWith, Keeps}
 
 pub joined_append : (xs ys : List (List Binding)) → joined (xs ++ ys) ≡ joined xs ++ joined ys
 joined_append [] ys = refl

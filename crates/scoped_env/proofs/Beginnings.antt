@@ -1,13 +1,6 @@
 -- Which environments a realm begins with, and begins anew with after a retirement.
-use Rattle.std.proofs.Common.{◌≡◌, ℕ, [], ◌++◌, refl, ap, sym, subst, ◌∙◌}
-use Rattle.scope_rules.specs.Origin.{Origin}
-use Rattle.scope_rules.specs.Search.{earliest}
-use Rattle.scope_rules.specs.History.{History, tasks, forking}
-use Rattle.scope_rules.specs.Bindings.{stack}
-use Rattle.scope_rules.specs.Replies.{base_of}
-use Rattle.scoped_env.specs.Layers.{all_pairs}
-use Rattle.scoped_env.specs.EnvTable.{EnvTable, beginning, restarted}
-use Rattle.scoped_env.specs.Agreement.{AreEnvsOf, layers_of}
+use Rattle.std.proofs.Common.{[], ℕ, ◌++◌, ◌∙◌, ◌≡◌, ap, refl, subst, sym}
+use Rattle.scoped_env.specs.{AreEnvsOf, EnvTable.EnvTable, History, Origin, Words.stack, Words.tasks, all_pairs, base_of, beginning, earliest, forking, layers_of, restarted}
 use Rattle.scoped_env.proofs.Sights.{layers_at, main_inherits_none}
 
 -- a realm that begins with the base

@@ -1,19 +1,7 @@
 -- What environments that agree with a history hold, and of whom.
-use Rattle.std.proofs.Common.{◌≡◌, ℕ, ◌+◌, ◌<◌, ◌==◌, Bool, true, false, cond, Some, length, get_or, refl, ap, sym, subst, ◌∙◌, arith, inl, inr}
-use Rattle.std.proofs.lemmas.Bool.{eqb-true, eqb-false}
-use Rattle.std.proofs.lemmas.Option.{slice_get-get_or}
-use Rattle.scope_rules.specs.declared.types.names.Name.{Name}
-use Rattle.scope_rules.specs.declared.types.capacity.Limits.{Limits}
-use Rattle.scope_rules.specs.declared.types.records.Forking.{Forking}
-use Rattle.scope_rules.specs.History.{History, forking}
-use Rattle.scope_rules.specs.Bindings.{stack, bindings, bound_to}
-use Rattle.scope_rules.specs.Legal.{Legal}
-use Rattle.scope_rules.proofs.Forkings.{forked_after}
-use Rattle.scope_rules.proofs.PassedRows.{IsActor}
-use Rattle.scope_rules.proofs.Stages.{running_forked}
-use Rattle.scoped_env.specs.Layers.{Layers, no_pairs, all_pairs}
-use Rattle.scoped_env.specs.EnvTable.{EnvTable, HasEnv, place_in, layers_in}
-use Rattle.scoped_env.specs.Agreement.{AreEnvsOf, layers_of}
+use Rattle.std.proofs.Common.{ℕ, ◌+◌, ◌<◌, ◌==◌, ◌∙◌, ◌≡◌, Bool, Some, ap, arith, cond, false, get_or, inl, inr, length, refl, subst, sym, true}
+use Rattle.scoped_env.specs.{AreEnvsOf, EnvTable.EnvTable, Forking, HasEnv, History, Layers.Layers, Legal, Limits, Name, Words.stack, all_pairs, bindings, bound_to, forking, layers_in, layers_of, no_pairs, place_in}
+use Rattle.scoped_env.proofs.Words.{IsActor, eqb-false, eqb-true, forked_after, running_forked, slice_get-get_or}
 use Rattle.scoped_env.proofs.Sights.{sees_layers}
 
 -- a task that was forked since the base has an environment

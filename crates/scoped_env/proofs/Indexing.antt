@@ -1,29 +1,10 @@
 -- What an index has after a pair more, and after one less.
-use Rattle.std.proofs.Common.{◌≡◌, ℕ, zero, suc, ◌+◌, ◌<◌, ◌≤◌, Bool, true, false, cond, Option, Some, None, List, [], ◌∷◌, ◌++◌, length, length-append, take, slice_get, refl, ap, sym, subst, ◌∙◌, arith, inl, inr}
-use Rattle.std.specs.Option.{option_or, is_some, IsSome}
-use Rattle.std.specs.declared.result.Result.{Result}
-use Rattle.std.specs.declared.result.Result.TheVariants.{Ok, Err}
-use Rattle.std.specs.Result.{is_err, OnOk}
-use Rattle.std.specs.BTreeMap as tree
-use Rattle.std.specs.Map.{lookup}
-use Rattle.scoped_env.specs.Stacked.{indexed, IsIndexed}
-use Rattle.std.specs.BTreeMap.{is_at}
-use Rattle.std.specs.Cmp.Lexicographic.{texts_ties}
-use Rattle.std.proofs.lemmas.Option.{same_Some}
-use Rattle.std.proofs.lemmas.List.{take-append-le, drop-append-le, take-append-drop, drop_all}
-use Rattle.std.proofs.Math.Seq.{take-append_seam}
-use Rattle.std.proofs.Math.ListN.{length-drop}
-use Rattle.scope_rules.specs.declared.types.names.Name.{Name}
-use Rattle.scope_rules.specs.declared.types.values.Value.{Value}
-use Rattle.scope_rules.specs.declared.types.events.Binding.{Binding}
-use Rattle.scope_rules.specs.Names.{text_of, same_name}
-use Rattle.scope_rules.specs.Bindings.{bound_to}
-use Rattle.scope_rules.proofs.Stacks.{bound_to_append}
-use Rattle.scope_rules.proofs.SamePairs.{same_name_tells}
-use Rattle.scope_rules.proofs.Prefixes.{take_at}
-use Rattle.scoped_env.specs.declared.keys.OrderedKey.{OrderedKey}
-use Rattle.scoped_env.specs.Keys.{key_cmp, value_in, HasLatest, AreEarlier}
+use Rattle.std.proofs.Common.{[], ℕ, ◌++◌, ◌+◌, ◌<◌, ◌∙◌, ◌∷◌, ◌≡◌, ◌≤◌, Bool, List, None, Option, Some, ap, arith, cond, false, inl, inr, length, length-append, refl, slice_get, subst, suc, sym, take, true, zero}
+use Rattle.scoped_env.specs.{AreEarlier, Binding, Err, HasLatest, IsIndexed, IsSome, Name, Ok, OnOk, OrderedKey, Result, Value, bound_to, indexed, is_at, is_err, is_some, key_cmp, lookup, option_or, same_name, text_of, texts_ties}
+use Rattle.scoped_env.specs.{value_in}
+use Rattle.scoped_env.proofs.Words.{bound_to_append, drop-append-le, drop_all, length-drop, same_Some, same_name_tells, take-append-drop, take-append-le, take-append_seam, take_at}
 use Rattle.scoped_env.proofs.ListSteps.{get_of_push}
+use Rattle.std.specs.BTreeMap as tree
 
 abbrev Index : Type 0
 Index = tree.BTreeMap OrderedKey Value

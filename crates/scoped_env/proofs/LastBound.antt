@@ -1,15 +1,7 @@
 -- The definition of a look-up, in words of the list alone.
-use Rattle.std.proofs.Common.{◌≡◌, ◌≢◌, ◌++◌, [], ◌∷◌, suc, List, Bool, true, false, cond, Option, Some, None, ◌↔◌, refl, ap, sym, arith}
-use Rattle.std.specs.Option.{option_or, MatchOption, IsNone, IfSome}
-use Rattle.std.proofs.lemmas.List.Elements.{All-cons, All-nil}
-use Rattle.std.proofs.lemmas.Bool.Decides.{not_from_Decides}
-use Rattle.scope_rules.specs.declared.types.names.Name.{Name}
-use Rattle.scope_rules.specs.declared.types.values.Value.{Value}
-use Rattle.scope_rules.specs.declared.types.events.Binding.{Binding}
-use Rattle.scope_rules.specs.Bindings.{bound_to}
-use Rattle.scope_rules.specs.Names.{same_name}
-use Rattle.scoped_env.specs.LastBound.{HasNone, IsLastBound}
-use Rattle.scope_rules.proofs.SamePairs.{same_name_tells}
+use Rattle.std.proofs.Common.{[], ◌++◌, ◌↔◌, ◌∷◌, ◌≡◌, ◌≢◌, Bool, List, None, Option, Some, ap, arith, cond, false, refl, suc, sym, true}
+use Rattle.scoped_env.specs.{Binding, HasNone, IfSome, IsLastBound, IsNone, MatchOption, Name, Value, bound_to, option_or, same_name}
+use Rattle.scoped_env.proofs.Words.{All-cons, All-nil, not_from_Decides, same_name_tells}
 
 abbrev Told : Name → List Binding → Option Value → Type 0
 Told key xs o = MatchOption o (HasNone xs key) (IsLastBound xs key)

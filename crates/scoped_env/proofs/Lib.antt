@@ -8,3 +8,4 @@ pub mod Steps
 pub mod Beginnings
 pub mod Indexing
 pub mod Batches
+mod Words

@@ -1,5 +1,5 @@
 -- What one element written, or put at the end, makes of the elements of a list.
-use Rattle.std.proofs.Common.{◌≡◌, ◌≢◌, ℕ, zero, suc, ◌<◌, ◌⊎◌, Some, List, [], ◌∷◌, ◌++◌, length, set, slice_get, refl, ap, arith, inl, inr}
+use Rattle.std.proofs.Common.{[], ℕ, ◌++◌, ◌<◌, ◌∷◌, ◌≡◌, ◌≢◌, ◌⊎◌, List, Some, ap, arith, inl, inr, length, refl, set, slice_get, suc, zero}
 
 -- the element that is written is there
 pub slice_get-set_same : {A : Type 0} (xs : List A) (i : ℕ) (v : A) → i < length xs → slice_get (set xs i v) i ≡ Some v

@@ -1,16 +1,7 @@
 -- What a key is bound to in joined lists, and how a search from the end finds it.
-use Rattle.std.proofs.Common.{◌≡◌, [], ◌∷◌, List, Bool, true, false, cond, Option, Some, None, refl, ap, ◌∙◌, reverse, IsTrue, ◌↔◌}
-use Rattle.std.specs.Option.{option_or, option_map}
-use Rattle.std.specs.List.{find}
-use Rattle.std.proofs.lemmas.Bool.Decides.{same_from_decides}
-use Rattle.std.proofs.lemmas.List.{reverse-append}
-use Rattle.std.proofs.lemmas.List.Folds.{find-append}
-use Rattle.scope_rules.specs.declared.types.names.Name.{Name}
-use Rattle.scope_rules.specs.declared.types.values.Value.{Value}
-use Rattle.scope_rules.specs.declared.types.events.Binding.{Binding}
-use Rattle.scope_rules.specs.Bindings.{bound_to}
-use Rattle.scope_rules.proofs.SamePairs.{same_name_tells}
-use Rattle.scope_rules.specs.Names.{same_name}
+use Rattle.std.proofs.Common.{[], ◌↔◌, ◌∙◌, ◌∷◌, ◌≡◌, Bool, IsTrue, List, None, Option, Some, ap, cond, false, refl, reverse, true}
+use Rattle.scoped_env.specs.{Binding, Name, Value, bound_to, find, option_map, option_or, same_name}
+use Rattle.scoped_env.proofs.Words.{find-append, reverse-append, same_from_decides, same_name_tells}
 
 abbrev pub value_of : Binding → Value
 value_of b = b.value

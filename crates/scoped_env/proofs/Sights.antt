@@ -1,20 +1,8 @@
 -- What an actor sees, and what it inherited, along a history.
-use Rattle.std.proofs.Common.{◌≡◌, ℕ, zero, suc, ◌<◌, Option, Some, None, List, [], ◌++◌, length, refl, ap, ◌∙◌, arith}
-use Rattle.std.specs.Option.{option_map_or}
-use Rattle.scope_rules.specs.declared.types.capacity.Limits.{Limits}
-use Rattle.scope_rules.specs.declared.types.events.Binding.{Binding}
-use Rattle.scope_rules.specs.declared.types.events.Event.{Event}
-use Rattle.scope_rules.specs.declared.types.records.Forking.{Forking}
-use Rattle.scope_rules.specs.History.{History, before, followed, forking}
-use Rattle.scope_rules.specs.Bindings.{stacked, stack, bindings_within, bindings}
-use Rattle.scope_rules.specs.Legal.{Legal}
-use Rattle.scope_rules.proofs.Earlier.{forking_within}
-use Rattle.scope_rules.proofs.Forkings.{main_unforked}
-use Rattle.scope_rules.proofs.Inherited.{bindings_of_task, bindings_of_main}
-use Rattle.scope_rules.proofs.Pushing.{before_push}
-use Rattle.scope_rules.proofs.StackEvents.{stack_push}
-use Rattle.scoped_env.specs.Layers.{Layers, all_pairs}
-use Rattle.scoped_env.specs.Agreement.{inherited_as, inherited_by, layers_of}
+use Rattle.std.proofs.Common.{[], ℕ, ◌++◌, ◌<◌, ◌∙◌, ◌≡◌, List, None, Option, Some, ap, arith, length, refl, suc, zero}
+use Rattle.scoped_env.specs.{Binding, Event, Forking, History, Layers.Layers, Legal, Limits, Words.before, Words.stack, all_pairs, bindings, bindings_within, followed, forking, inherited_as, inherited_by, layers_of, option_map_or}
+use Rattle.scoped_env.specs.{stacked}
+use Rattle.scoped_env.proofs.Words.{before_push, bindings_of_main, bindings_of_task, forking_within, main_unforked, stack_push}
 
 -- inherited pairs with own ones above them
 abbrev pub layers_at : List Binding → List Binding → Layers

@@ -1,31 +1,10 @@
 -- How the environments that agree with a history go on by one event.
-use Rattle.std.proofs.Common.{◌≡◌, ◌≢◌, ℕ, ◌+◌, ◌<◌, ◌==◌, Bool, true, false, cond, Option, Some, None, Result, Ok, Err, List, [], ◌∷◌, ◌++◌, length, set, slice_get, refl, ap, sym, subst, ◌∙◌, arith, length-append, inl, inr}
-use Rattle.std.proofs.lemmas.Bool.{eqb-true, eqb-false, eq-eqb}
-use Rattle.std.proofs.lemmas.List.{length-set}
-use Rattle.std.proofs.lemmas.Option.{same_Some}
-use Rattle.std.specs.Option.{option_or}
-use Rattle.std.specs.Result.{OnOk}
-use Rattle.scope_rules.specs.declared.types.capacity.Limits.{Limits}
-use Rattle.scope_rules.specs.declared.types.values.Label.{Label}
-use Rattle.scope_rules.specs.declared.types.events.Binding.{Binding}
-use Rattle.scope_rules.specs.declared.types.events.Event.{Event}
-use Rattle.scope_rules.specs.declared.types.events.Event.TheVariants.{Fork, Bind, Unbind}
-use Rattle.scope_rules.specs.declared.types.records.Forking.{Forking}
-use Rattle.scope_rules.specs.History.{History, followed, tasks, forking, forked_count, is_fork}
-use Rattle.scope_rules.specs.Bindings.{stacked, stack, bindings}
-use Rattle.scope_rules.specs.Legal.{Legal}
-use Rattle.scope_rules.proofs.Forkings.{forked_after}
-use Rattle.scope_rules.proofs.OneEventMore.{forking_grows, forking_same, forking_other}
-use Rattle.scope_rules.proofs.Owing.{count_push}
-use Rattle.scope_rules.proofs.Pushing.{before_last}
-use Rattle.scope_rules.proofs.StackEvents.{stack_push, stacked_bind, stacked_bind_other, stacked_unbind, stacked_unbind_other}
-use Rattle.scoped_env.specs.Layers.{Layers, all_pairs, with_pair, without_last_pair, inheriting}
-use Rattle.scoped_env.specs.EnvTable.{EnvTable, HasEnv, place_in, layers_in, with_layers, with_fork}
-use Rattle.scoped_env.specs.Agreement.{AreEnvsOf, inherited_as, inherited_by, layers_of, moves_envs}
-use Rattle.scoped_env.proofs.ListSteps.{slice_get-set_same, slice_get-set_other, get_of_push}
-use Rattle.scoped_env.proofs.Unforked.{unforked_stack}
-use Rattle.scoped_env.proofs.Held.{layers_there}
-use Rattle.scoped_env.proofs.Sights.{layers_at, sees_layers, layers_after}
+use Rattle.std.proofs.Common.{[], ℕ, ◌++◌, ◌+◌, ◌<◌, ◌==◌, ◌∙◌, ◌∷◌, ◌≡◌, ◌≢◌, Bool, Err, List, None, Ok, Option, Result, Some, ap, arith, cond, false, inl, inr, length, length-append, refl, set, slice_get, subst, sym, true}
+use Rattle.scoped_env.specs.{AreEnvsOf, Bind, Binding, EnvTable.EnvTable, Event, Fork, Forking, HasEnv, History, Label, Layers.Layers, Legal, Limits, OnOk, Unbind, Words.stack, Words.tasks, all_pairs, bindings, followed}
+use Rattle.scoped_env.specs.{forked_count, forking, inherited_as, inherited_by, inheriting, is_fork, layers_in, layers_of, moves_envs, option_or, place_in, stacked, with_fork, with_layers, with_pair, without_last_pair}
+use Rattle.scoped_env.proofs.Words.{before_last, count_push, eq-eqb, eqb-false, eqb-true, forked_after, forking_grows, forking_other, forking_same, length-set, same_Some, stack_push, stacked_bind, stacked_bind_other}
+use Rattle.scoped_env.proofs.Words.{stacked_unbind, stacked_unbind_other}
+use Rattle.scoped_env.proofs.{Held.layers_there, ListSteps.get_of_push, ListSteps.slice_get-set_other, ListSteps.slice_get-set_same, Sights.layers_after, Sights.layers_at, Sights.sees_layers, Unforked.unforked_stack}
 
 -- ---- an event that is no fork
 

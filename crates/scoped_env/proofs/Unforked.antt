@@ -1,22 +1,7 @@
 -- Who was never forked, and isn't main, has no own pairs.
-use Rattle.std.proofs.Common.{◌≡◌, ℕ, ◌<◌, ◌==◌, Bool, true, false, cond, Option, Some, None, [], ◌∷◌, List, refl, ap, sym, subst, ◌∙◌, arith, inl, inr}
-use Rattle.std.proofs.lemmas.Bool.{ne_eqb}
-use Rattle.scope_rules.specs.declared.types.capacity.Limits.{Limits}
-use Rattle.scope_rules.specs.declared.types.events.Binding.{Binding}
-use Rattle.scope_rules.specs.declared.types.events.Event.{Event}
-use Rattle.scope_rules.specs.declared.types.events.Event.TheVariants.{Bind, Unbind}
-use Rattle.scope_rules.specs.declared.types.records.Forking.{Forking}
-use Rattle.scope_rules.specs.Origin.{Origin}
-use Rattle.scope_rules.specs.History.{History, followed, forking}
-use Rattle.scope_rules.specs.Bindings.{stacked, stack}
-use Rattle.scope_rules.specs.Table.{row_check}
-use Rattle.scope_rules.specs.Legal.{Accepts, Legal}
-use Rattle.scope_rules.proofs.Accepted.{checks_at}
-use Rattle.scope_rules.proofs.Growing.{forking_stays}
-use Rattle.scope_rules.proofs.OneEventMore.{along}
-use Rattle.scope_rules.proofs.PassedRows.{IsActor, actor_passed}
-use Rattle.scope_rules.proofs.StackEvents.{stack_push}
-use Rattle.scope_rules.proofs.Stages.{running_forked}
+use Rattle.std.proofs.Common.{[], ℕ, ◌<◌, ◌==◌, ◌∙◌, ◌∷◌, ◌≡◌, Bool, List, None, Option, Some, ap, arith, cond, false, inl, inr, refl, subst, sym, true}
+use Rattle.scoped_env.specs.{Accepts, Bind, Binding, Event, Forking, History, Legal, Limits, Origin, Unbind, Words.stack, followed, forking, row_check, stacked}
+use Rattle.scoped_env.proofs.Words.{IsActor, actor_passed, along, checks_at, forking_stays, ne_eqb, running_forked, stack_push}
 
 -- who binds is main, or runs
 binder_acts : (L : Limits) (h : History) (a : ℕ) (pair : Binding) → Accepts L h (Bind a pair) → IsActor h a

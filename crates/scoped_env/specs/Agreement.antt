@@ -1,14 +1,7 @@
 -- Which environments agree with a history.
-use Rattle.std.specs.Prelude.{◌≡◌, ℕ, ◌+◌, Bool, true, false, Option, Some, List, [], length, slice_get}
-use Rattle.std.specs.Option.{option_map_or}
-use Rattle.scope_rules.specs.declared.types.events.Binding.{Binding}
-use Rattle.scope_rules.specs.declared.types.events.Event.{Event}
-use Rattle.scope_rules.specs.declared.types.events.Event.TheVariants.{Fork, Bind, Unbind}
-use Rattle.scope_rules.specs.declared.types.records.Forking.{Forking}
-use Rattle.scope_rules.specs.History.{History, before, forked_count, forking}
-use Rattle.scope_rules.specs.Bindings.{stack, bindings}
-use Rattle.scoped_env.specs.Layers.{Layers}
-use Rattle.scoped_env.specs.EnvTable.{EnvTable}
+use Rattle.std.specs.Prelude.{[], ℕ, ◌+◌, ◌≡◌, Bool, List, Option, Some, false, length, slice_get, true}
+use Rattle.scoped_env.specs.Words.{Bind, Binding, Event, Fork, Forking, History, Unbind, before, bindings, forked_count, forking, option_map_or, stack}
+use Rattle.scoped_env.specs.{EnvTable.EnvTable, Layers.Layers}
 
 -- what the task inherited: all that its forker saw at the fork
 abbrev pub inherited_as : History → Option Forking → List Binding

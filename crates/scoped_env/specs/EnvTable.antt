@@ -1,7 +1,7 @@
 -- The environments of a realm's actors, and how a call changes them.
-use Rattle.std.specs.Prelude.{ℕ, ◌+◌, ◌-◌, ◌<◌, ◌≤◌, ◌==◌, List, [], ◌∷◌, ◌++◌, length, slice_index_or, slice_set, if◌then◌else◌}
-use Rattle.scope_rules.specs.Origin.{Origin}
-use Rattle.scoped_env.specs.Layers.{Layers, no_pairs, inheriting}
+use Rattle.std.specs.Prelude.{[], ℕ, ◌++◌, ◌+◌, ◌-◌, ◌<◌, ◌==◌, ◌∷◌, ◌≤◌, List, if◌then◌else◌, length, slice_index_or, slice_set}
+use Rattle.scoped_env.specs.Words.{Origin}
+use Rattle.scoped_env.specs.Layers.{Layers, inheriting, no_pairs}
 
 -- main's pairs, and those of the tasks that are numbered from `before` on, in order of their numbers
 pub record EnvTable : Type 0 where

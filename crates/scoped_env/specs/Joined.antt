@@ -1,7 +1,6 @@
 -- Lists of pairs in a row, and what an environment keeps of those that it shared.
-use Rattle.std.specs.Prelude.{◌≡◌, List, [], ◌∷◌, ◌++◌, length, take, Option}
-use Rattle.std.specs.Option.{IfSome}
-use Rattle.scope_rules.specs.declared.types.events.Binding.{Binding}
+use Rattle.std.specs.Prelude.{[], ◌++◌, ◌∷◌, ◌≡◌, List, Option, length, take}
+use Rattle.scoped_env.specs.Words.{Binding, IfSome}
 
 -- the lists as one
 abbrev pub joined : List (List Binding) → List Binding

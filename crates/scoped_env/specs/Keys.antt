@@ -1,15 +1,7 @@
 -- Keys in order, and what an index has of a list of pairs.
-use Rattle.std.specs.Prelude.{◌≡◌, ℕ, List, take, length, slice_get, Option, Some}
-use Rattle.std.specs.declared.cmp.Ordering.{Ordering}
-use Rattle.std.specs.Ordering.{nat_cmp}
-use Rattle.std.specs.Cmp.Lexicographic.{slice_cmp}
+use Rattle.std.specs.Prelude.{ℕ, ◌≡◌, List, Option, Some, length, slice_get, take}
+use Rattle.scoped_env.specs.Words.{Binding, Name, OrderedKey, Ordering, Value, bound_to, nat_cmp, slice_cmp, text_of}
 use Rattle.std.specs.BTreeMap as tree
-use Rattle.scope_rules.specs.declared.types.names.Name.{Name}
-use Rattle.scope_rules.specs.declared.types.values.Value.{Value}
-use Rattle.scope_rules.specs.declared.types.events.Binding.{Binding}
-use Rattle.scope_rules.specs.Names.{text_of}
-use Rattle.scope_rules.specs.Bindings.{bound_to}
-use Rattle.scoped_env.specs.declared.keys.OrderedKey.{OrderedKey}
 
 -- keys in the order of their texts
 abbrev pub key_cmp : (a b : OrderedKey) → Ordering

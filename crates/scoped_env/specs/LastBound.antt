@@ -1,9 +1,6 @@
 -- Which pair of a list a key is bound by, in words of the list alone.
-use Rattle.std.specs.Prelude.{◌≡◌, ◌≢◌, List, ◌∷◌, ◌++◌}
-use Rattle.std.specs.List.{All}
-use Rattle.scope_rules.specs.declared.types.names.Name.{Name}
-use Rattle.scope_rules.specs.declared.types.values.Value.{Value}
-use Rattle.scope_rules.specs.declared.types.events.Binding.{Binding}
+use Rattle.std.specs.Prelude.{◌++◌, ◌∷◌, ◌≡◌, ◌≢◌, List}
+use Rattle.scoped_env.specs.Words.{All, Binding, Name, Value}
 
 -- no pair has the key
 abbrev pub HasNone : List Binding → Name → Type 0

@@ -1,7 +1,6 @@
 -- The pairs that an actor sees: those that it inherited at its fork, and its own stack.
-use Rattle.std.specs.Prelude.{List, [], ◌∷◌, ◌++◌}
-use Rattle.scope_rules.specs.declared.types.events.Binding.{Binding}
-use Rattle.scope_rules.specs.Bindings.{without_last}
+use Rattle.std.specs.Prelude.{[], ◌++◌, ◌∷◌, List}
+use Rattle.scoped_env.specs.Words.{Binding, without_last}
 
 -- each list has the oldest pair first
 pub record Layers : Type 0 where

@@ -9,3 +9,14 @@ pub mod Shared
 pub mod Pairs
 pub mod EnvTable
 pub mod Agreement
+pub mod Words
+unfoldable pub use Words.*
+pub use Agreement.*
+pub use EnvTable.*
+pub use Joined.*
+pub use Keys.*
+pub use LastBound.*
+pub use Layers.*
+pub use Listed.*
+pub use Shared.*
+pub use Stacked.*

@@ -1,8 +1,6 @@
 -- The pairs that an environment holds, as layers.
-use Rattle.std.specs.Prelude.{[]}
-use Rattle.scoped_env.specs.Layers.{Layers}
-use Rattle.scoped_env.specs.declared.env.Pairs.{Pairs}
-use Rattle.scoped_env.specs.declared.env.Pairs.TheVariants.{Inherited, WithOwn}
+use Rattle.scoped_env.specs.Words.{[]}
+use Rattle.scoped_env.specs.{Layers.Layers, declared.env.Pairs.Pairs, declared.env.Pairs.TheVariants.Inherited, declared.env.Pairs.TheVariants.WithOwn}
 
 -- an actor that has bound nothing itself has an empty stack
 abbrev pub layers : Pairs → Layers

@@ -1,9 +1,6 @@
 -- The pairs of a list that several environments can hold.
-use Rattle.std.specs.Prelude.{List, []}
-use Rattle.std.specs.Arc.{arc_value, arc_slice_items}
-use Rattle.scope_rules.specs.declared.types.events.Binding.{Binding}
-use Rattle.scoped_env.specs.declared.shared.PairList.{PairList}
-use Rattle.scoped_env.specs.declared.shared.PairList.TheVariants.{Empty, Few, Many}
+use Rattle.scoped_env.specs.Words.{[], Binding, List, arc_slice_items, arc_value}
+use Rattle.scoped_env.specs.declared.shared.PairList.{PairList, TheVariants.Empty, TheVariants.Few, TheVariants.Many}
 
 abbrev pub pairs_of : PairList → List Binding
 pairs_of Empty = []

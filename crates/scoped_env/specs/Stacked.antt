@@ -1,10 +1,7 @@
 -- How a stack of pairs is indexed.
-use Rattle.std.specs.Prelude.{List, drop, Option}
+use Rattle.scoped_env.specs.Words.{Binding, List, Option, OrderedKey, Value, drop}
+use Rattle.scoped_env.specs.Keys.{AreEarlier, HasLatest}
 use Rattle.std.specs.BTreeMap as tree
-use Rattle.scope_rules.specs.declared.types.values.Value.{Value}
-use Rattle.scope_rules.specs.declared.types.events.Binding.{Binding}
-use Rattle.scoped_env.specs.declared.keys.OrderedKey.{OrderedKey}
-use Rattle.scoped_env.specs.Keys.{HasLatest, AreEarlier}
 
 -- the pairs that are indexed
 abbrev pub indexed : List Binding → List Binding

@@ -1,6 +1,5 @@
 ghost use Rattle.std.specs.Prelude.{◌≡◌, IfOk};
-ghost use Rattle.std.specs.Arc.{arc_slice_items};
-ghost use Rattle.scope_rules.specs.Bindings.{bound_to};
+ghost use Rattle.scoped_env.specs.{arc_slice_items, bound_to};
 
 use crate::keys::{LatestValues, OrderedKey, last_value, latest_of};
 use crate::stack::FEW;

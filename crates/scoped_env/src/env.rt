@@ -1,6 +1,5 @@
-ghost use Rattle.std.specs.Prelude.{◌≡◌, ◌↔◌, ◌++◌, ◌∷◌, [], IfOk, OnOk, OnErr, IfErr, IsErr, IfSome, IsNone, length};
-ghost use Rattle.scope_rules.specs.Bindings.{bound_to};
-ghost use Rattle.scoped_env.specs.LastBound.{HasNone, IsLastBound};
+ghost use Rattle.std.specs.Prelude.{[], ◌++◌, ◌↔◌, ◌∷◌, ◌≡◌, IfErr, IfOk, IfSome, IsErr, IsNone, OnErr, OnOk, length};
+ghost use Rattle.scoped_env.specs.{HasNone, IsLastBound, bound_to};
 
 use crate::own::OwnPairs;
 use crate::shared::SharedPairs;

@@ -1,15 +1,6 @@
-ghost use Rattle.std.specs.Prelude.{◌≡◌, ℕ, ◌+◌, [], ◌∷◌, ◌++◌, ◌<◌, IfOk, OnOk, OnErr, length};
-ghost use Rattle.scope_rules.specs.Origin.{the_start};
-ghost use Rattle.scope_rules.specs.declared.types.capacity.Limits.{Limits};
-ghost use Rattle.scope_rules.specs.declared.types.values.Label.{Label};
-ghost use Rattle.scope_rules.specs.declared.types.events.Event.TheVariants.{Bind, Unbind, Fork};
-ghost use Rattle.scope_rules.specs.History.{History, followed, tasks};
-ghost use Rattle.scope_rules.specs.Bindings.{stack, bindings, bound_to};
-ghost use Rattle.scope_rules.specs.Legal.{Legal};
-ghost use Rattle.scope_rules.specs.Replies.{base_of};
-ghost use Rattle.scoped_env.specs.Layers.{all_pairs, with_pair, without_last_pair};
-ghost use Rattle.scoped_env.specs.EnvTable.{HasEnv, beginning, layers_in, place_in, with_layers, with_fork, restarted};
-ghost use Rattle.scoped_env.specs.Agreement.{AreEnvsOf};
+ghost use Rattle.std.specs.Prelude.{[], ℕ, ◌++◌, ◌+◌, ◌<◌, ◌∷◌, ◌≡◌, IfOk, OnErr, OnOk, length};
+ghost use Rattle.scoped_env.specs.{AreEnvsOf, Bind, Fork, HasEnv, History, Label, Legal, Limits, Unbind, Words.stack, Words.tasks, all_pairs, base_of, beginning, bindings, bound_to, followed, layers_in, place_in, restarted};
+ghost use Rattle.scoped_env.specs.{the_start, with_fork, with_layers, with_pair, without_last_pair};
 
 use crate::Env;
 use scope_rules::types::values::MAIN;

@@ -1,5 +1,5 @@
-ghost use Rattle.std.specs.Prelude.{◌≡◌, ◌-◌, ◌≤◌, ◌<◌, ◌++◌, ◌∷◌, [], OnOk, OnErr, length, take};
-ghost use Rattle.scoped_env.specs.Joined.{joined, BeginsWith};
+ghost use Rattle.std.specs.Prelude.{[], ◌++◌, ◌-◌, ◌<◌, ◌∷◌, ◌≡◌, ◌≤◌, OnErr, OnOk, length, take};
+ghost use Rattle.scoped_env.specs.{BeginsWith, joined};
 
 use crate::batch::Batch;
 use crate::shared::share_all;

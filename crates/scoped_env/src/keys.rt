@@ -1,12 +1,8 @@
 //! Keys in the order of their texts, and the values that they have in a list of pairs.
 
-ghost use Rattle.std.specs.Prelude.{◌≡◌, IfOk, nat_eq, Some, refl};
-ghost use Rattle.std.specs.Ordering.{nat_cmp};
-ghost use Rattle.std.specs.Cmp.{nat_cmp_total, on_equiv, on_per, on_total, partial_equiv_from_equiv, partial_order_from_own_ties, partial_order_from_total};
-ghost use Rattle.std.specs.Cmp.Lexicographic.{lists_total, nat_list_eq_equiv, texts_ties, pointwise, slice_cmp};
-ghost use Rattle.scope_rules.specs.Names.{text_of};
-ghost use Rattle.scope_rules.specs.Bindings.{bound_to};
-ghost use Rattle.scoped_env.specs.Keys.{key_cmp, HasLatest};
+ghost use Rattle.std.specs.Prelude.{◌≡◌, IfOk, Some, nat_eq, refl};
+ghost use Rattle.scoped_env.specs.{HasLatest, bound_to, key_cmp, lists_total, nat_cmp, nat_cmp_total, nat_list_eq_equiv, on_equiv, on_per, on_total, partial_equiv_from_equiv, partial_order_from_own_ties, partial_order_from_total};
+ghost use Rattle.scoped_env.specs.{pointwise, slice_cmp, text_of, texts_ties};
 
 use scope_rules::{Binding, Name, Value};
 use std::alloc::{AllocError, Global};

@@ -1,8 +1,5 @@
-ghost use Rattle.std.specs.Prelude.{◌≡◌, ◌-◌, ◌<◌, ◌^◌, ◌++◌, ◌∷◌, [], List, IsTrue, Some, IfSome, IfOk, length, slice_get, take};
-ghost use Rattle.std.specs.Arc.{arc_slice_items};
-ghost use Rattle.scope_rules.specs.declared.types.events.Binding.{Binding};
-ghost use Rattle.scoped_env.specs.Joined.{BeginsWith};
-ghost use Rattle.scoped_env.specs.Listed.{pairs_listed};
+ghost use Rattle.std.specs.Prelude.{[], ◌++◌, ◌-◌, ◌<◌, ◌^◌, ◌∷◌, ◌≡◌, IfOk, IfSome, IsTrue, List, Some, length, slice_get, take};
+ghost use Rattle.scoped_env.specs.{BeginsWith, Binding, arc_slice_items, pairs_listed};
 
 use scope_rules::Binding;
 use std::alloc::AllocError;

@@ -1,6 +1,5 @@
-ghost use Rattle.std.specs.Prelude.{◌≡◌, ◌↔◌, [], IfOk, OnOk, OnErr, IfErr, IsErr, IfSome, Some, ◌≤◌, length};
-ghost use Rattle.std.specs.Arc.{arc_slice_items};
-ghost use Rattle.scope_rules.specs.Bindings.{bound_to};
+ghost use Rattle.std.specs.Prelude.{[], ◌↔◌, ◌≡◌, ◌≤◌, IfErr, IfOk, IfSome, IsErr, OnErr, OnOk, Some, length};
+ghost use Rattle.scoped_env.specs.{arc_slice_items, bound_to};
 
 use crate::frozen::Frozen;
 use crate::listed::Listed;

@@ -1,7 +1,5 @@
-ghost use Rattle.std.specs.Prelude.{◌≡◌, ◌++◌, ◌<◌, ◌≤◌, ◌^◌, IfOk, OnOk, [], length};
-ghost use Rattle.std.specs.Arc.{arc_slice_items};
-ghost use Rattle.scope_rules.specs.Bindings.{bound_to};
-ghost use Rattle.scoped_env.specs.Joined.{joined};
+ghost use Rattle.std.specs.Prelude.{[], ◌++◌, ◌<◌, ◌^◌, ◌≡◌, ◌≤◌, IfOk, OnOk, length};
+ghost use Rattle.scoped_env.specs.{arc_slice_items, bound_to, joined};
 
 use crate::batch::Batch;
 use crate::keys::last_value;

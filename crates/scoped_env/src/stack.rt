@@ -1,8 +1,5 @@
-ghost use Rattle.std.specs.Prelude.{◌≡◌, ◌↔◌, ◌++◌, ◌∷◌, [], false, IfOk, OnOk, OnErr, IsSome, if◌then◌else◌};
-ghost use Rattle.scope_rules.specs.declared.types.names.Name.{Name};
-ghost use Rattle.scope_rules.specs.Bindings.{bound_to, without_last};
-ghost use Rattle.scope_rules.specs.Names.{same_name};
-ghost use Rattle.scoped_env.specs.Keys.{value_in};
+ghost use Rattle.std.specs.Prelude.{[], ◌++◌, ◌↔◌, ◌∷◌, ◌≡◌, IfOk, IsSome, OnErr, OnOk, false, if◌then◌else◌};
+ghost use Rattle.scoped_env.specs.{Name, bound_to, same_name, value_in, without_last};
 
 use crate::keys::{LatestValues, OrderedKey, last_value};
 use scope_rules::{Binding, Name, Value};

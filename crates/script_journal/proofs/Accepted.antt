@@ -1,26 +1,10 @@
 -- An event that is accepted is told no refusal.
-use Rattle.std.proofs.Common.{◌≡◌, ℕ, ◌==◌, ◌||◌, Bool, true, false, Option, Some, None, Ok, refl, ap, ◌∙◌, arith}
-use Rattle.std.specs.Prelude.{ok_or}
-use Rattle.std.proofs.lemmas.Bool.Decides.{nat_tests}
-use Rattle.scope_rules.specs.declared.types.capacity.Limits.{Limits}
-use Rattle.scope_rules.specs.declared.types.events.Event.{Event}
+use Rattle.std.proofs.Common.{ℕ, ◌==◌, ◌||◌, ◌∙◌, ◌≡◌, Bool, None, Ok, Option, Some, ap, arith, false, ok_or, refl, true}
+use Rattle.script_journal.specs.{Accepts, Do, Event, History, Limits, NotJoined, Outcome, Realm, checks, event_reply_of, followed, is_open, is_refused, joined, known_scope, outcome, outcome_check, realm_after, replied, reply_to}
+use Rattle.script_journal.specs.{row_check, scope_check, then_check}
+use Rattle.script_journal.proofs.Lemmas.{checks_at, joined_grows, nat_tests, opening_same, outcome_there}
 use Rattle.scope_rules.specs.declared.types.events.Event.TheVariants as event
-use Rattle.scope_rules.specs.declared.types.outcomes.Outcome.{Outcome}
-use Rattle.scope_rules.specs.declared.types.refusals.Refusal.TheVariants.{NotJoined}
-use Rattle.scope_rules.specs.History.{History, followed, is_open}
-use Rattle.scope_rules.specs.Legal.{Accepts}
-use Rattle.scope_rules.specs.Scopes.{joined}
-use Rattle.scope_rules.specs.Checks.{checks, then_check, scope_check, known_scope}
-use Rattle.scope_rules.specs.Table.{row_check}
-use Rattle.scope_rules.specs.Outcomes.{outcome}
-use Rattle.scope_rules.specs.Replies.{Realm, outcome_check}
-use Rattle.scope_rules.proofs.Accepted.{checks_at}
-use Rattle.scope_rules.proofs.Joined.{outcome_there}
-use Rattle.scope_rules.proofs.OneEventMore.{opening_same, joined_grows}
-use Rattle.script_words.specs.declared.commands.Command.TheVariants.{Do}
 use Rattle.script_words.specs.declared.reply.Reply.TheVariants as reply
-use Rattle.scope_script.specs.Replying.{replied, event_reply_of, reply_to, realm_after}
-use Rattle.scope_script.specs.Tallies.{is_refused}
 
 -- the realm of the limits with the history
 abbrev pub ruled : Limits → History → Realm

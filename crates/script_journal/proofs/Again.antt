@@ -1,14 +1,8 @@
 -- The script of a history without dues is that of the history.
-use Rattle.std.proofs.Common.{◌≡◌, List, [], ◌∷◌, ◌++◌, map, ℕ, refl, sym, ap, ap₂, ◌∙◌}
-use Rattle.scope_rules.specs.declared.types.events.Event.{Event}
-use Rattle.scope_rules.specs.declared.types.events.Event.TheVariants as event
-use Rattle.scope_rules.specs.Origin.{Origin}
-use Rattle.scope_rules.specs.Replies.{Realm}
-use Rattle.scope_log.specs.Dues.{without_due}
-use Rattle.script_journal.specs.Script.{event_line, moment_text, binds_text, events_text}
-use Rattle.scope_script.specs.Sessions.{realm_of_script}
-use Rattle.script_journal.specs.Journals.{JournalStays, JournalTellsAll}
+use Rattle.std.proofs.Common.{[], ℕ, ◌++◌, ◌∙◌, ◌∷◌, ◌≡◌, List, ap, ap₂, map, refl, sym}
+use Rattle.script_journal.specs.{Event, JournalStays, JournalTellsAll, Origin, Realm, binds_text, event_line, events_text, moment_text, realm_of_script, without_due}
 use Rattle.script_journal.proofs.Running.{journal_is_a_script}
+use Rattle.scope_rules.specs.declared.types.events.Event.TheVariants as event
 
 same_line : (base : Origin) (e : Event) → event_line base (without_due e) ≡ event_line base e
 unfolding event_line

@@ -1,23 +1,10 @@
 -- What a tick, binds and retirements leave of a fresh realm.
-use Rattle.std.proofs.Common.{◌≡◌, ℕ, zero, suc, ◌+◌, ◌<◌, ◌≤◌, false, nat_lt, Option, Some, None, option_map, Ok, List, [], ◌∷◌, ◌++◌, length, take, map, fold, sum_by, count_by, slice_get, refl, sym, ap, ◌∙◌, subst, append_assoc, append-nil, arith}
-use Rattle.std.proofs.lemmas.Bool.Decides.{nat_tests}
-use Rattle.std.proofs.lemmas.List.{length-take, take-map}
-use Rattle.std.proofs.lemmas.Option.{slice_get-map, slice_get_within}
-use Rattle.scope_rules.specs.declared.types.capacity.Limits.{Limits}
-use Rattle.scope_rules.specs.declared.types.events.Binding.{Binding}
-use Rattle.scope_rules.specs.declared.types.events.Event.{Event}
+use Rattle.std.proofs.Common.{[], ℕ, ◌++◌, ◌+◌, ◌<◌, ◌∙◌, ◌∷◌, ◌≡◌, ◌≤◌, List, None, Ok, Option, Some, ap, append-nil, append_assoc, arith, count_by, false, fold, length, map, nat_lt, option_map, refl, slice_get, subst, suc}
+use Rattle.std.proofs.Common.{sum_by, sym, take, zero}
+use Rattle.script_journal.specs.{Accepts, Binding, Event, History, Legal, Limits, Origin, base_of, before, checks, innermost, is_fork, is_open, known_actor, last_of, latest, load, moment, opened_count, retire_check, row_check}
+use Rattle.script_journal.specs.{stack, stacked, the_start, then_check, tick_of, weight}
+use Rattle.script_journal.proofs.Lemmas.{count_by-cons, length-take, nat_tests, slice_get-map, slice_get_within, take-map}
 use Rattle.scope_rules.specs.declared.types.events.Event.TheVariants as event
-use Rattle.scope_rules.specs.History.{History, before, is_open, is_fork, opened_count, tick_of, moment}
-use Rattle.scope_rules.specs.Origin.{Origin, the_start}
-use Rattle.scope_rules.specs.Legal.{Legal, Accepts}
-use Rattle.scope_rules.specs.Load.{weight, load}
-use Rattle.scope_rules.specs.Search.{last_of, latest}
-use Rattle.scope_rules.specs.Scopes.{innermost}
-use Rattle.scope_rules.specs.Bindings.{stacked, stack}
-use Rattle.scope_rules.specs.Checks.{checks, then_check, known_actor}
-use Rattle.scope_rules.specs.Table.{row_check, retire_check}
-use Rattle.scope_rules.proofs.Completions.{count_by-cons}
-use Rattle.scope_rules.specs.Replies.{base_of}
 
 -- a history of the base
 abbrev pub from : Origin → List Event → History

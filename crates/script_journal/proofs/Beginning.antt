@@ -1,26 +1,12 @@
 -- The lines with which a script begins bring a fresh realm to the moment and to main's bindings.
-use Rattle.std.proofs.Common.{◌≡◌, ℕ, zero, suc, ◌<◌, ◌≤◌, ◌^◌, Some, List, [], ◌∷◌, ◌++◌, length, map, slice_get, codes, refl, sym, ap, ◌∙◌, subst, arith}
-use Rattle.std.proofs.lemmas.Option.{slice_get-map}
-use Rattle.std.specs.Fmt.{decimal, digits}
-use Rattle.scope_rules.specs.declared.types.capacity.Limits.{Limits}
-use Rattle.scope_rules.specs.declared.types.events.Binding.{Binding}
+use Rattle.std.proofs.Common.{[], ℕ, ◌++◌, ◌<◌, ◌^◌, ◌∙◌, ◌∷◌, ◌≡◌, ◌≤◌, List, Some, ap, arith, codes, length, map, refl, slice_get, subst, suc, sym, zero}
+use Rattle.script_journal.specs.{AllFit, BaseFits, Binding, Command, Fits, HasWords, History, IsValue, Limits, Origin, Retire, base_of, decimal, digits, event_line, line_said, opened_count, realm_after, reply_to, starting}
+use Rattle.script_journal.specs.{the_start, without_due, words_of}
+use Rattle.script_journal.proofs.Lemmas.{line_says_the_command, slice_get-map}
+use Rattle.script_journal.proofs.{Accepted.ruled, Bases.bind_of, Bases.binding, Bases.binds_leave, Bases.binds_legal, Bases.bound_there, Bases.from, Bases.may_retire, Bases.none_opened, Bases.tick_leaves, Bases.tick_legal}
+use Rattle.script_journal.proofs.{Bases.unnumbered, PlayedLines.bind_line, PlayedLines.binds_said, PlayedLines.moment_said, PlayedLines.retire_line, Running.Plays, Running.both_played, Running.events_played, Running.line_played}
+use Rattle.script_journal.proofs.{Running.none_played}
 use Rattle.scope_rules.specs.declared.types.events.Event.TheVariants as event
-use Rattle.scope_rules.specs.History.{History, opened_count}
-use Rattle.scope_rules.specs.Origin.{Origin, the_start}
-use Rattle.scope_rules.specs.Replies.{starting, base_of}
-use Rattle.scope_log.specs.Dues.{without_due}
-use Rattle.script_words.specs.declared.commands.Command.TheVariants.{Retire}
-use Rattle.script_words.specs.declared.commands.Line.TheVariants.{Command}
-use Rattle.script_words.specs.Lines.{line_said}
-use Rattle.script_words.specs.Spelling.{HasWords, IsValue, words_of}
-use Rattle.script_words.proofs.SpelledLines.{line_says_the_command}
-use Rattle.scope_script.specs.Replying.{reply_to, realm_after}
-use Rattle.script_journal.specs.Script.{event_line}
-use Rattle.script_journal.specs.Journals.{AllFit, BaseFits, Fits}
-use Rattle.script_journal.proofs.Accepted.{ruled}
-use Rattle.script_journal.proofs.Bases.{from, unnumbered, may_retire, tick_legal, tick_leaves, bind_of, binding, bound_there, none_opened, binds_legal, binds_leave}
-use Rattle.script_journal.proofs.PlayedLines.{retire_line, bind_line, moment_said, binds_said}
-use Rattle.script_journal.proofs.Running.{Plays, none_played, both_played, line_played, events_played}
 
 -- ---- a retirement
 

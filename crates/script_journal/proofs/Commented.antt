@@ -1,14 +1,8 @@
 -- The script with times is the script, with comments between its lines.
-use Rattle.std.proofs.Common.{◌≡◌, ℕ, zero, suc, Option, None, Some, List, [], ◌∷◌, ◌++◌, length, slice_get, codes, refl, length-append}
-use Rattle.std.proofs.lemmas.List.{append-nil, append_assoc}
-use Rattle.std.specs.List.{flat_map, range_with_len}
-use Rattle.std.specs.Fmt.{decimal}
-use Rattle.scope_rules.specs.declared.types.events.Binding.{Binding}
-use Rattle.scope_rules.specs.declared.types.events.Event.{Event}
-use Rattle.scope_rules.specs.History.{History}
-use Rattle.scope_rules.specs.Origin.{Origin}
-use Rattle.script_journal.specs.Script.{binds_text, event_line, events_text, moment_text, pair_text, pairs_text, retire_behind, retire_text, script_text}
-use Rattle.script_journal.specs.Timed.{TimesAreComments, WithTimes, ended, time, line, at_text, line_of, new_time, timed_line, timed_text}
+use Rattle.std.proofs.Common.{[], ℕ, ◌++◌, ◌∷◌, ◌≡◌, List, None, Option, Some, codes, length, length-append, refl, slice_get, suc, zero}
+use Rattle.script_journal.specs.{Binding, Event, History, Origin, TimesAreComments, WithTimes, at_text, binds_text, decimal, ended, event_line, events_text, flat_map, line, line_of, moment_text, new_time, pair_text, pairs_text}
+use Rattle.script_journal.specs.{range_with_len, retire_behind, retire_text, script_text, time, timed_line, timed_text}
+use Rattle.script_journal.proofs.Lemmas.{append-nil, append_assoc}
 
 -- one text with times behind another
 pub both : (a b c d : List ℕ) → WithTimes a b → WithTimes c d → WithTimes (a ++ c) (b ++ d)

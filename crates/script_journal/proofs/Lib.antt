@@ -14,3 +14,4 @@ pub mod RaisedChecks
 pub mod RaisedLegal
 pub mod Renumbered
 pub mod Commented
+mod Lemmas

@@ -1,30 +1,10 @@
 -- The lines of a script: one for each event, and no line holds a line feed.
-use Rattle.std.proofs.Common.{◌≡◌, ℕ, zero, suc, ◌+◌, ◌==◌, Bool, true, false, Option, None, Some, Ok, Err, List, [], ◌∷◌, ◌++◌, length, map, refl, sym, ap, ◌∙◌, append_assoc, append-nil, arith}
-use Rattle.std.specs.Prelude.{codes}
-use Rattle.std.specs.Fmt.{decimal}
-use Rattle.std.specs.List.{flat_map}
-use Rattle.std.proofs.lemmas.Bool.Decides.{nat_tests}
-use Rattle.std.proofs.lemmas.List.{length-append, length-map}
-use Rattle.std.proofs.lemmas.List.Folds.{list_all-append}
-use Rattle.scope_rules.specs.declared.types.values.Value.{Value}
-use Rattle.scope_rules.specs.declared.types.values.Value.TheVariants.{Num, Text}
-use Rattle.scope_rules.specs.declared.types.joiners.Policy.{Policy}
-use Rattle.scope_rules.specs.declared.types.joiners.Policy.TheVariants.{All, Any, AwaitAll, AwaitOk, Until}
-use Rattle.scope_rules.specs.declared.types.joiners.Rule.TheVariants.{FailuresAtLeast, SuccessesAtLeast, SumAtLeast}
-use Rattle.scope_rules.specs.declared.types.events.Binding.{Binding}
-use Rattle.scope_rules.specs.declared.types.events.Event.{Event}
+use Rattle.std.proofs.Common.{[], ℕ, ◌++◌, ◌+◌, ◌==◌, ◌∙◌, ◌∷◌, ◌≡◌, Bool, Err, List, None, Ok, Option, Some, ap, append-nil, append_assoc, arith, codes, false, length, map, refl, suc, sym, true, zero}
+use Rattle.script_journal.specs.{All, Any, AwaitAll, AwaitOk, Binding, Event, Expiry, Fail, FailuresAtLeast, History, MoveOn, NoLineIsLost, Num, Origin, Policy, SuccessesAtLeast, SumAtLeast, Text, Until, Value, beginning_lines}
+use Rattle.script_journal.specs.{begun_line, bind_lines, binds_text, decimal, ended_lines, event_line, events_text, expiry_text, flat_map, is_printable, joiner_text, limit_text, moment_lines, moment_text, pair_text, pairs_text}
+use Rattle.script_journal.specs.{retire_behind, retire_text, script_text, shield_text, value_text}
+use Rattle.script_journal.proofs.Lemmas.{Shows, decimal_shows, length-append, length-map, list_all-append, name_shows, nat_tests, signed_shows}
 use Rattle.scope_rules.specs.declared.types.events.Event.TheVariants as event
-use Rattle.scope_rules.specs.declared.types.events.Expiry.{Expiry}
-use Rattle.scope_rules.specs.declared.types.events.Expiry.TheVariants.{Fail, MoveOn}
-use Rattle.scope_rules.specs.History.{History}
-use Rattle.scope_rules.specs.Origin.{Origin}
-use Rattle.scope_rules.specs.Texts.{value_text}
-use Rattle.scope_log.specs.LogText.{joiner_text, limit_text, expiry_text, shield_text}
-use Rattle.script_words.specs.Printable.{is_printable}
-use Rattle.script_words.proofs.PrintableText.{Shows, decimal_shows, signed_shows, name_shows}
-use Rattle.script_journal.specs.Script.{pair_text, event_line, retire_text, moment_text, pairs_text, retire_behind, binds_text, events_text, script_text}
-use Rattle.scope_script.specs.Cutting.{ended_lines, begun_line}
-use Rattle.script_journal.specs.Journals.{moment_lines, bind_lines, beginning_lines, NoLineIsLost}
 
 -- ---- lines are printable
 

@@ -1,34 +1,13 @@
 -- What cancels scopes stays, but for the numbers, if so many others were numbered before.
-use Rattle.std.proofs.Common.{◌≡◌, ℕ, ◌+◌, max, Bool, true, false, cond, Option, Some, None, option_map, is_some, List, [], ◌∷◌, map, slice_get, refl, ap, ap₂, ◌∙◌}
-use mathlib.Core.Path.{fun_ext}
-use Rattle.std.specs.Prelude.{◌+ℤ◌}
-use Rattle.std.specs.Option.{option_and_then, option_or}
-use Rattle.scope_rules.specs.declared.types.capacity.Limits.{Limits}
-use Rattle.scope_rules.specs.declared.types.events.Event.{Event}
-use Rattle.scope_rules.specs.declared.types.events.Event.TheVariants.{Finish, Cancel, Move, BeginClose}
-use Rattle.scope_rules.specs.declared.types.answers.CauseKind.{CauseKind}
-use Rattle.scope_rules.specs.declared.types.answers.CauseKind.TheVariants.{Close, Joiner, Deadline}
-use Rattle.scope_rules.specs.declared.types.joiners.Policy.{Policy}
-use Rattle.scope_rules.specs.declared.types.joiners.Policy.TheVariants.{All, Any, AwaitAll, AwaitOk, Until}
-use Rattle.scope_rules.specs.declared.types.joiners.Rule.TheVariants.{FailuresAtLeast, SuccessesAtLeast, SumAtLeast}
-use Rattle.scope_rules.specs.declared.types.values.Completion.{Completion}
-use Rattle.scope_rules.specs.declared.types.records.FirstCancel.{FirstCancel}
-use Rattle.scope_rules.specs.declared.types.records.Forking.{Forking}
-use Rattle.scope_rules.specs.declared.types.records.Opening.{Opening}
-use Rattle.scope_rules.specs.declared.types.records.OwnCancel.{OwnCancel}
-use Rattle.scope_rules.specs.Chains.{shifted}
-use Rattle.scope_rules.specs.History.{History, before, opening, forking}
-use Rattle.scope_rules.specs.Legal.{Legal}
-use Rattle.scope_rules.specs.Joining.{has_failed, has_succeeded, summand_of_end, total_of, meets, fires}
-use Rattle.scope_rules.specs.Completions.{is_task_of, completion_of, completions, completes}
-use Rattle.scope_rules.specs.Scopes.{outer}
-use Rattle.scope_rules.specs.Cancels.{move_of, deadline, overdue, direct_kind, joiner_fires, kind_by, own_at, own, own_cancel, first_cancel, is_cancelled, cancelled_at, cancelled_before}
-use Rattle.scope_rules.proofs.Nesting.{outer_inward}
-use Rattle.scope_rules.proofs.ShiftedChains.{cancel_shifted}
-use Rattle.scope_log.proofs.Mapped.{any_mapped, count_mapped, then_mapped, map_or_mapped}
-use Rattle.script_journal.proofs.Raising.{up, same_behind, raised, up_opening, up_forking, last_raised, filter_raised}
-use Rattle.script_journal.proofs.RaisedEvents.{raise, raised_before, raised_length, raised_at, raised_moment, raised_opening, raised_forking}
-use Rattle.script_journal.proofs.RaisedScopes.{raised_joined, raised_outer, raised_covers}
+use Rattle.std.proofs.Common.{[], ℕ, ◌+ℤ◌, ◌+◌, ◌∙◌, ◌∷◌, ◌≡◌, Bool, List, None, Option, Some, ap, ap₂, cond, false, is_some, map, max, option_map, refl, slice_get, true}
+use Rattle.script_journal.specs.{All, Any, AwaitAll, AwaitOk, BeginClose, Cancel, CauseKind, Close, Completion, Deadline, Event, FailuresAtLeast, Finish, FirstCancel, Forking, History, Joiner, Legal, Limits, Move, Opening}
+use Rattle.script_journal.specs.{OwnCancel, Policy, SuccessesAtLeast, SumAtLeast, Until, before, cancelled_at, cancelled_before, completes, completion_of, completions, deadline, direct_kind, fires, first_cancel, forking}
+use Rattle.script_journal.specs.{has_failed, has_succeeded, is_cancelled, is_task_of, joiner_fires, kind_by, meets, move_of, opening, option_and_then, option_or, outer, overdue, own, own_at, own_cancel, shifted, summand_of_end}
+use Rattle.script_journal.specs.{total_of}
+use Rattle.script_journal.proofs.Lemmas.{any_mapped, cancel_shifted, count_mapped, fun_ext, map_or_mapped, outer_inward, then_mapped}
+use Rattle.script_journal.proofs.{RaisedEvents.raise, RaisedEvents.raised_at, RaisedEvents.raised_before, RaisedEvents.raised_forking, RaisedEvents.raised_length, RaisedEvents.raised_moment, RaisedEvents.raised_opening}
+use Rattle.script_journal.proofs.{RaisedScopes.raised_covers, RaisedScopes.raised_joined, RaisedScopes.raised_outer, Raising.filter_raised, Raising.last_raised, Raising.raised, Raising.same_behind, Raising.up, Raising.up_forking}
+use Rattle.script_journal.proofs.{Raising.up_opening}
 
 -- ---- joiners
 

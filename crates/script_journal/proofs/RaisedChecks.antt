@@ -1,27 +1,14 @@
 -- What is accepted if so many scopes and tasks were numbered before is accepted without them.
-use Rattle.std.proofs.Common.{◌≡◌, ℕ, zero, suc, ◌+◌, ◌==◌, ◌&&◌, ◌||◌, Bool, true, false, not, cond, nat_le, nat_lt, Option, Some, None, option_map, is_some, Ok, Err, List, [], ◌∷◌, refl, ap, sym, ◌∙◌, arith}
-use Rattle.std.proofs.lemmas.Bool.Decides.{nat_tests}
-use Rattle.std.specs.Option.{option_map_or}
-use Rattle.scope_rules.specs.declared.types.capacity.Limits.{Limits}
-use Rattle.scope_rules.specs.declared.types.capacity.TheConstants.{GREATEST_NUMBER}
-use Rattle.scope_rules.specs.declared.types.events.Event.{Event}
-use Rattle.scope_rules.specs.declared.types.events.Event.TheVariants.{Open, Fork, Reject, Start, Finish, Cancel, Move, Tick, Bind, Unbind, Join, BeginClose, EndClose}
-use Rattle.scope_rules.specs.declared.types.records.Opening.{Opening}
-use Rattle.scope_rules.specs.declared.types.records.Forking.{Forking}
-use Rattle.scope_rules.specs.declared.types.refusals.Refusal.{Refusal}
+use Rattle.std.proofs.Common.{[], ℕ, ◌&&◌, ◌+◌, ◌==◌, ◌||◌, ◌∙◌, ◌∷◌, ◌≡◌, Bool, Err, List, None, Ok, Option, Some, ap, arith, cond, false, is_some, nat_le, nat_lt, not, option_map, refl, suc, sym, true, zero}
+use Rattle.script_journal.specs.{Accepts, BeginClose, Bind, Cancel, Checked, EndClose, Event, Finish, Fork, Forking, GREATEST_NUMBER, History, Join, Legal, Limits, Move, Open, Opening, Refusal, Reject, Start, Tick, Unbind}
+use Rattle.script_journal.specs.{actor_check, check_of, checks, closing, forked_count, forking, in_closing, innermost, is_already, is_innermost, known_actor, known_scope, known_task, opened_count, opening, option_map_or}
+use Rattle.script_journal.specs.{over_load, over_scopes, over_tasks, owner_check, owns, refuse_closing, refuse_full, refuse_if, refuse_joined, row_check, scope_check, task_check, then_check}
+use Rattle.script_journal.proofs.Lemmas.{map_or_mapped, nat_tests}
+use Rattle.script_journal.proofs.{RaisedCancels.raised_cancelled, RaisedEvents.raise, RaisedEvents.raised_forked, RaisedEvents.raised_forking, RaisedEvents.raised_load, RaisedEvents.raised_moment, RaisedEvents.raised_opened}
+use Rattle.script_journal.proofs.{RaisedEvents.raised_opening, RaisedScopes.raised_closed, RaisedScopes.raised_closing, RaisedScopes.raised_innermost, RaisedScopes.raised_joined, RaisedScopes.raised_next_level}
+use Rattle.script_journal.proofs.{RaisedTasks.raised_bound_as_opened, RaisedTasks.raised_holds_last, RaisedTasks.raised_ready, RaisedTasks.raised_settled, RaisedTasks.raised_stack, RaisedTasks.raised_stage, Raising.raised}
+use Rattle.script_journal.proofs.{Raising.same_behind, Raising.up, Raising.up_forking, Raising.up_main, Raising.up_opening, Raising.up_same}
 use Rattle.scope_rules.specs.declared.types.refusals.Refusal.TheVariants as refusal
-use Rattle.scope_rules.specs.History.{History, opened_count, forked_count, opening, forking}
-use Rattle.scope_rules.specs.Load.{over_load, over_scopes, over_tasks}
-use Rattle.scope_rules.specs.Legal.{Legal, Accepts}
-use Rattle.scope_rules.specs.Scopes.{innermost, closing}
-use Rattle.scope_rules.specs.Checks.{Checked, refuse_if, then_check, checks, scope_check, task_check, actor_check, owner_check, refuse_closing, refuse_joined, refuse_full, known_scope, known_task, known_actor, owns, in_closing, is_innermost}
-use Rattle.scope_rules.specs.Table.{check_of, is_already, row_check}
-use Rattle.scope_log.proofs.Mapped.{map_or_mapped}
-use Rattle.script_journal.proofs.Raising.{up, up_same, up_main, same_behind, raised, up_opening, up_forking}
-use Rattle.script_journal.proofs.RaisedEvents.{raise, raised_opened, raised_forked, raised_load, raised_moment, raised_opening, raised_forking}
-use Rattle.script_journal.proofs.RaisedScopes.{raised_joined, raised_closed, raised_innermost, raised_next_level, raised_closing}
-use Rattle.script_journal.proofs.RaisedCancels.{raised_cancelled}
-use Rattle.script_journal.proofs.RaisedTasks.{raised_stage, raised_settled, raised_ready, raised_stack, raised_bound_as_opened, raised_holds_last}
 
 -- the second check passes where the first does
 abbrev Passes : Checked → Checked → Type 0

@@ -1,16 +1,8 @@
 -- What is read of the events of a history stays, but for the numbers, if so many others were numbered before.
-use Rattle.std.proofs.Common.{◌≡◌, ℕ, zero, suc, ◌+◌, ◌==◌, Bool, true, false, cond, Option, Some, None, option_map, List, length, take, map, slice_get, count_by, refl, ap, ◌∙◌, arith}
-use mathlib.Core.Path.{fun_ext}
-use Rattle.std.proofs.lemmas.Bool.Decides.{nat_tests}
-use Rattle.std.proofs.lemmas.List.{take-map, length-map}
-use Rattle.std.proofs.lemmas.Option.{slice_get-map}
-use Rattle.std.specs.Option.{option_and_then}
-use Rattle.scope_rules.specs.declared.types.events.Event.{Event}
-use Rattle.scope_rules.specs.declared.types.events.Event.TheVariants.{Open, Fork, Tick}
-use Rattle.scope_rules.specs.History.{History, before, is_open, is_fork, opened_count, forked_count, opening_of, forking_of, numbered_at, opening, forking, tick_of, moment}
-use Rattle.scope_rules.specs.Load.{weight, load}
-use Rattle.scope_log.proofs.Mapped.{last_mapped, sum_mapped, count_mapped, earliest_mapped}
-use Rattle.script_journal.proofs.Raising.{up, raised, up_opening, up_forking, earliest_none}
+use Rattle.std.proofs.Common.{ℕ, ◌+◌, ◌==◌, ◌∙◌, ◌≡◌, Bool, List, None, Option, Some, ap, arith, cond, count_by, false, length, map, option_map, refl, slice_get, suc, take, true, zero}
+use Rattle.script_journal.specs.{Event, Fork, History, Open, Tick, before, forked_count, forking, forking_of, is_fork, is_open, load, moment, numbered_at, opened_count, opening, opening_of, option_and_then, tick_of, weight}
+use Rattle.script_journal.proofs.Lemmas.{count_mapped, earliest_mapped, fun_ext, last_mapped, length-map, nat_tests, slice_get-map, sum_mapped, take-map}
+use Rattle.script_journal.proofs.Raising.{earliest_none, raised, up, up_forking, up_opening}
 
 module _ (S K : ℕ) where
   -- the history, if so many scopes and tasks were numbered before

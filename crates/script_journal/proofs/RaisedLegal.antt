@@ -1,25 +1,12 @@
 -- A legal history is legal too if its scopes and tasks are counted from its base on.
-use Rattle.std.proofs.Common.{◌≡◌, ℕ, zero, suc, ◌+◌, ◌-◌, ◌<◌, ◌≤◌, ◌==◌, ◌&&◌, Bool, true, false, not, nat_le, nat_lt, Some, is_some, Ok, List, [], ◌∷◌, length, take, map, slice_get, refl, ap, ap₂, sym, ◌∙◌, subst, arith, add-one}
-use Rattle.std.proofs.lemmas.Bool.Decides.{nat_tests}
-use Rattle.std.proofs.lemmas.List.{take_all}
-use Rattle.scope_rules.specs.declared.types.capacity.Limits.{Limits}
-use Rattle.scope_rules.specs.declared.types.events.Event.{Event}
-use Rattle.scope_rules.specs.declared.types.events.Event.TheVariants.{Open, Fork, Reject, Start, Finish, Cancel, Move, Tick, Bind, Unbind, Join, BeginClose, EndClose}
-use Rattle.scope_rules.specs.declared.types.refusals.Refusal.{Refusal}
+use Rattle.std.proofs.Common.{[], ℕ, ◌&&◌, ◌+◌, ◌-◌, ◌<◌, ◌==◌, ◌∙◌, ◌∷◌, ◌≡◌, ◌≤◌, Bool, List, Ok, Some, add-one, ap, ap₂, arith, false, is_some, length, map, nat_le, nat_lt, not, refl, slice_get, subst, suc, sym, take, true}
+use Rattle.std.proofs.Common.{zero}
+use Rattle.script_journal.specs.{Accepts, BeginClose, Bind, Cancel, EndClose, Event, Finish, Fork, History, Join, Legal, Limits, Move, NumbersDecideNothing, Open, Refusal, Reject, Start, Tick, Unbind, actor_check, anew, before}
+use Rattle.script_journal.specs.{followed, forking, is_running, known_actor, known_scope, known_task, opening, refuse_if, renumbered, row_check, scope_check, stage, task_check}
+use Rattle.script_journal.proofs.Lemmas.{checks_at, entry_at, legal_before, legal_push, nat_tests, take_all, take_at}
+use Rattle.script_journal.proofs.{RaisedChecks.accepts, RaisedChecks.passes_both, RaisedEvents.main_unforked, RaisedEvents.none_unopened, RaisedEvents.raise, RaisedEvents.raised_at, RaisedEvents.raised_before, Raising.raised}
+use Rattle.script_journal.proofs.{Raising.up}
 use Rattle.scope_rules.specs.declared.types.refusals.Refusal.TheVariants as refusal
-use Rattle.scope_rules.specs.History.{History, before, followed, opening, forking}
-use Rattle.scope_rules.specs.Legal.{Legal, Accepts}
-use Rattle.scope_rules.specs.Tasks.{stage, is_running}
-use Rattle.scope_rules.specs.Checks.{refuse_if, scope_check, task_check, actor_check, known_scope, known_task, known_actor}
-use Rattle.scope_rules.specs.Table.{row_check}
-use Rattle.scope_rules.proofs.Accepted.{checks_at, entry_at}
-use Rattle.scope_rules.proofs.Nesting.{legal_before}
-use Rattle.scope_rules.proofs.Prefixes.{take_at}
-use Rattle.scope_rules.proofs.Pushing.{legal_push}
-use Rattle.script_journal.specs.Anew.{NumbersDecideNothing, anew, renumbered}
-use Rattle.script_journal.proofs.Raising.{up, raised}
-use Rattle.script_journal.proofs.RaisedEvents.{raise, raised_before, raised_at, main_unforked, none_unopened}
-use Rattle.script_journal.proofs.RaisedChecks.{accepts, passes_both}
 
 -- ---- without the others the history is legal
 

@@ -1,22 +1,10 @@
 -- What is read of scopes stays, but for the numbers, if so many others were numbered before.
-use Rattle.std.proofs.Common.{◌≡◌, ℕ, ◌+◌, ◌==◌, ◌&&◌, Bool, true, false, not, cond, Option, Some, None, option_map, length, slice_get, refl, ap, ◌∙◌, arith}
-use mathlib.Core.Path.{fun_ext}
-use Rattle.std.proofs.lemmas.List.{length-map}
-use Rattle.std.specs.Option.{option_and_then, option_map_or}
-use Rattle.scope_rules.specs.declared.types.capacity.Limits.{Limits}
-use Rattle.scope_rules.specs.declared.types.events.Event.{Event}
-use Rattle.scope_rules.specs.declared.types.events.Event.TheVariants.{Join, BeginClose, EndClose}
-use Rattle.scope_rules.specs.declared.types.records.Opening.{Opening}
-use Rattle.scope_rules.specs.declared.types.records.Forking.{Forking}
-use Rattle.scope_rules.specs.Chains.{chain_by}
-use Rattle.scope_rules.specs.History.{History, before, opened_count, opening, forking}
-use Rattle.scope_rules.specs.Legal.{Legal}
-use Rattle.scope_rules.specs.Scopes.{joins, joined, ends, closed, unclosed_of, innermost, forked_in, surrounding, around, parent, outer, level, next_level, have_one_opener, covers, begins_closing, closing_at, closing}
-use Rattle.scope_rules.proofs.Levels.{parent_inward}
-use Rattle.scope_rules.proofs.ShiftedChains.{chain_shifted}
-use Rattle.scope_log.proofs.Mapped.{map_or_mapped}
-use Rattle.script_journal.proofs.Raising.{up, up_same, same_behind, before_behind, raised, up_opening, up_forking, any_raised, or_raised, latest_raised}
-use Rattle.script_journal.proofs.RaisedEvents.{raise, raised_before, raised_length, raised_at, raised_opened, raised_opening, raised_forking}
+use Rattle.std.proofs.Common.{ℕ, ◌&&◌, ◌+◌, ◌==◌, ◌∙◌, ◌≡◌, Bool, None, Option, Some, ap, arith, cond, false, length, not, option_map, refl, slice_get, true}
+use Rattle.script_journal.specs.{BeginClose, EndClose, Event, Forking, History, Join, Legal, Limits, Opening, around, before, begins_closing, chain_by, closed, closing, closing_at, covers, ends, forked_in, forking}
+use Rattle.script_journal.specs.{have_one_opener, innermost, joined, joins, level, next_level, opened_count, opening, option_and_then, option_map_or, outer, parent, surrounding, unclosed_of}
+use Rattle.script_journal.proofs.Lemmas.{chain_shifted, fun_ext, length-map, map_or_mapped, parent_inward}
+use Rattle.script_journal.proofs.{RaisedEvents.raise, RaisedEvents.raised_at, RaisedEvents.raised_before, RaisedEvents.raised_forking, RaisedEvents.raised_length, RaisedEvents.raised_opened, RaisedEvents.raised_opening}
+use Rattle.script_journal.proofs.{Raising.any_raised, Raising.before_behind, Raising.latest_raised, Raising.or_raised, Raising.raised, Raising.same_behind, Raising.up, Raising.up_forking, Raising.up_opening, Raising.up_same}
 
 module _ (S K : ℕ) where
   joins_raised : (s : ℕ) (e : Event) → joins (S + s) (raised S K e) ≡ joins s e

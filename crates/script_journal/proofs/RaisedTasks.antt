@@ -1,22 +1,11 @@
 -- What is read of tasks and of bindings stays, but for the numbers, if so many others were numbered before.
-use Rattle.std.proofs.Common.{◌≡◌, ℕ, suc, ◌+◌, false, not, List, refl, ap, ◌∙◌, arith}
-use Rattle.std.specs.List.{list_any}
-use Rattle.scope_rules.specs.declared.types.capacity.Limits.{Limits}
-use Rattle.scope_rules.specs.declared.types.events.Binding.{Binding}
-use Rattle.scope_rules.specs.declared.types.events.Event.{Event}
-use Rattle.scope_rules.specs.declared.types.events.Event.TheVariants.{Reject, Start, Finish, Bind, Unbind}
-use Rattle.scope_rules.specs.declared.types.answers.Stage.TheVariants.{Never}
-use Rattle.scope_rules.specs.declared.types.records.Opening.{Opening}
-use Rattle.scope_rules.specs.declared.types.records.Forking.{Forking}
-use Rattle.scope_rules.specs.History.{History, before, opening, forking, opened_count, forked_count, task_numbers}
-use Rattle.scope_rules.specs.Legal.{Legal}
-use Rattle.scope_rules.specs.Tasks.{rejects, rejected, starts, started, finishes, finished, stage_of, stage, is_unsettled, settled, ready}
-use Rattle.scope_rules.specs.Bindings.{stacked, first_stack, stack, bound_as_opened, opened_above, holds_last}
-use Rattle.scope_log.proofs.Mapped.{map_or_mapped}
-use Rattle.script_journal.proofs.Raising.{up, up_same, up_main, raised, up_opening, up_forking, any_raised, fold_raised, any_numbered}
-use Rattle.script_journal.proofs.RaisedEvents.{raise, raised_before, raised_opened, raised_forked, raised_opening, raised_forking}
-use Rattle.script_journal.proofs.RaisedScopes.{raised_closed}
-use Rattle.script_journal.proofs.RaisedCancels.{raised_is_task_of, raised_cancelled, raised_cancelled_before}
+use Rattle.std.proofs.Common.{ℕ, ◌+◌, ◌∙◌, ◌≡◌, List, ap, arith, false, not, refl, suc}
+use Rattle.script_journal.specs.{Bind, Binding, Event, Finish, Forking, History, Legal, Limits, Never, Opening, Reject, Start, Unbind, before, bound_as_opened, finished, finishes, first_stack, forked_count, forking, holds_last}
+use Rattle.script_journal.specs.{is_unsettled, list_any, opened_above, opened_count, opening, ready, rejected, rejects, settled, stack, stacked, stage, stage_of, started, starts, task_numbers}
+use Rattle.script_journal.proofs.Lemmas.{map_or_mapped}
+use Rattle.script_journal.proofs.{RaisedCancels.raised_cancelled, RaisedCancels.raised_cancelled_before, RaisedCancels.raised_is_task_of, RaisedEvents.raise, RaisedEvents.raised_before, RaisedEvents.raised_forked}
+use Rattle.script_journal.proofs.{RaisedEvents.raised_forking, RaisedEvents.raised_opened, RaisedEvents.raised_opening, RaisedScopes.raised_closed, Raising.any_numbered, Raising.any_raised, Raising.fold_raised, Raising.raised}
+use Rattle.script_journal.proofs.{Raising.up, Raising.up_forking, Raising.up_main, Raising.up_opening, Raising.up_same}
 
 module _ (S K : ℕ) where
   -- ---- stages

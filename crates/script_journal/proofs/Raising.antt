@@ -1,13 +1,8 @@
 -- Scopes and tasks with so many others numbered before them, main still 0: events of them, and searches over these.
-use Rattle.std.proofs.Common.{◌≡◌, ℕ, zero, suc, ◌+◌, ◌==◌, Bool, Option, Some, None, option_map, List, [], ◌∷◌, map, fold, nat_lt, refl, ap, ◌∙◌, arith}
-use Rattle.std.proofs.lemmas.Bool.Decides.{nat_tests}
-use Rattle.std.specs.Option.{option_or}
-use Rattle.std.specs.List.{list_any, cons_option, filter_map, range_with_len}
-use Rattle.scope_rules.specs.declared.types.events.Event.{Event}
+use Rattle.std.proofs.Common.{[], ℕ, ◌+◌, ◌==◌, ◌∙◌, ◌∷◌, ◌≡◌, Bool, List, None, Option, Some, ap, arith, fold, map, nat_lt, option_map, refl, suc, zero}
+use Rattle.script_journal.specs.{Event, Forking, Opening, cons_option, earliest, filter_map, last_of, latest, list_any, option_or, range_with_len}
+use Rattle.script_journal.proofs.Lemmas.{nat_tests}
 use Rattle.scope_rules.specs.declared.types.events.Event.TheVariants as event
-use Rattle.scope_rules.specs.declared.types.records.Opening.{Opening}
-use Rattle.scope_rules.specs.declared.types.records.Forking.{Forking}
-use Rattle.scope_rules.specs.Search.{earliest, latest, last_of}
 
 -- task k, or main, if so many tasks were numbered before
 unfoldable pub up : ℕ → ℕ → ℕ

@@ -1,22 +1,10 @@
 -- The script of a history is that of the same, if nothing was numbered before, and brings a fresh realm there.
-use Rattle.std.proofs.Common.{◌≡◌, ℕ, zero, suc, ◌-◌, ◌<◌, ◌≤◌, ◌^◌, Result, Ok, Err, IfOk, List, [], ◌∷◌, ◌++◌, length, map, refl, ap, ap₂, sym, ◌∙◌, subst, arith}
-use native.Mathlib.Numerals.{unary_clauses}
-use Rattle.scope_rules.specs.declared.types.capacity.Limits.{Limits}
-use Rattle.scope_rules.specs.declared.types.events.Event.{Event}
+use Rattle.std.proofs.Common.{[], ℕ, ◌++◌, ◌-◌, ◌<◌, ◌^◌, ◌∙◌, ◌∷◌, ◌≡◌, ◌≤◌, Err, IfOk, List, Ok, Result, ap, ap₂, arith, length, map, refl, subst, suc, sym, zero}
+use Rattle.script_journal.specs.{AllFit, BaseFits, Event, Fits, HasWords, History, IsRuled, JournalBringsAnew, JournalCountsAnew, Limits, Origin, Realm, RunsTo, anew, binds_text, event_line, events_text, load, moment_text}
+use Rattle.script_journal.specs.{renumbered, script_text, without_dues}
+use Rattle.script_journal.proofs.Lemmas.{unary_clauses}
+use Rattle.script_journal.proofs.{Beginning.begun, RaisedLegal.numbers_decide_nothing, Running.runs}
 use Rattle.scope_rules.specs.declared.types.events.Event.TheVariants as event
-use Rattle.scope_rules.specs.History.{History}
-use Rattle.scope_rules.specs.Load.{load}
-use Rattle.scope_rules.specs.Origin.{Origin}
-use Rattle.scope_rules.specs.Replies.{Realm}
-use Rattle.scope_checks.specs.Ruled.{IsRuled}
-use Rattle.scope_log.specs.Dues.{without_dues}
-use Rattle.script_words.specs.Spelling.{HasWords}
-use Rattle.script_journal.specs.Script.{binds_text, event_line, events_text, moment_text, script_text}
-use Rattle.script_journal.specs.Anew.{JournalBringsAnew, JournalCountsAnew, anew, renumbered}
-use Rattle.script_journal.specs.Journals.{AllFit, BaseFits, Fits, RunsTo}
-use Rattle.script_journal.proofs.Beginning.{begun}
-use Rattle.script_journal.proofs.RaisedLegal.{numbers_decide_nothing}
-use Rattle.script_journal.proofs.Running.{runs}
 
 -- an event's line is that of the event counted anew
 line_anew : (h : History) (e : Event) → event_line (anew h).base (renumbered h.base.scopes h.base.tasks e) ≡ event_line h.base e

@@ -1,33 +1,12 @@
 -- The run of the script of a legal history.
-use Rattle.std.proofs.Common.{◌≡◌, ℕ, ◌+◌, false, Some, Result, Ok, Err, IfOk, List, [], ◌∷◌, ◌++◌, length, map, take, slice_get, refl, sym, ap, ap₂, ◌∙◌, subst, append_assoc, append-nil}
-use mathlib.Core.Path.{fun_ext}
-use Rattle.std.proofs.Math.Seq.{take-append_seam}
-use Rattle.std.proofs.lemmas.List.{length-map}
-use Rattle.scope_rules.specs.declared.types.capacity.Limits.{Limits}
-use Rattle.scope_rules.specs.declared.types.events.Binding.{Binding}
-use Rattle.scope_rules.specs.declared.types.events.Event.{Event}
+use Rattle.std.proofs.Common.{[], ℕ, ◌++◌, ◌+◌, ◌∙◌, ◌∷◌, ◌≡◌, Err, IfOk, List, Ok, Result, Some, ap, append-nil, append_assoc, ap₂, false, length, map, refl, slice_get, subst, sym, take}
+use Rattle.script_journal.specs.{Accepts, AllFit, Binding, Command, Do, Event, History, JournalIsAScript, Legal, Limits, Origin, Realm, RunsTo, Tally, beginning_lines, ended_lines, event_line, is_refused, line_said, no_refusals}
+use Rattle.script_journal.specs.{realm_after, realm_after_line, realm_after_lines, realm_of_script, reply_to, script_text, starting, tally_after_line, tally_after_lines, tally_of_script, the_start, with_cut, without_due}
+use Rattle.script_journal.specs.{without_dues}
+use Rattle.script_journal.proofs.Lemmas.{accepts_without, fun_ext, length-map, take-append_seam, without_followed}
+use Rattle.script_journal.proofs.{Accepted.accepted_adds, Accepted.accepted_unrefused, Accepted.ruled, Bases.from, Bases.unnumbered, PlayedLines.all_ended, PlayedLines.all_lines, PlayedLines.binds_said, PlayedLines.line_count}
+use Rattle.script_journal.proofs.{PlayedLines.moment_said, Words.line_says_event}
 use Rattle.scope_rules.specs.declared.types.events.Event.TheVariants as event
-use Rattle.scope_rules.specs.History.{History}
-use Rattle.scope_rules.specs.Legal.{Legal, Accepts}
-use Rattle.scope_rules.specs.Origin.{Origin, the_start}
-use Rattle.scope_rules.specs.Replies.{Realm, starting}
-use Rattle.scope_log.specs.Dues.{without_due, without_dues}
-use Rattle.scope_log.proofs.Events.{without_followed}
-use Rattle.scope_log.proofs.Checks.{accepts_without}
-use Rattle.script_words.specs.declared.commands.Command.TheVariants.{Do}
-use Rattle.script_words.specs.declared.commands.Line.TheVariants.{Command}
-use Rattle.script_words.specs.Lines.{line_said}
-use Rattle.script_journal.specs.Script.{event_line, script_text}
-use Rattle.scope_script.specs.Cutting.{ended_lines}
-use Rattle.scope_script.specs.Replying.{reply_to, realm_after}
-use Rattle.scope_script.specs.Sessions.{realm_after_line, realm_after_lines, realm_of_script}
-use Rattle.scope_script.specs.declared.session.tally.Tally.{Tally}
-use Rattle.scope_script.specs.Tallies.{is_refused, no_refusals, tally_after_line, tally_after_lines, tally_of_script, with_cut}
-use Rattle.script_journal.specs.Journals.{AllFit, RunsTo, JournalIsAScript, beginning_lines}
-use Rattle.script_journal.proofs.Words.{line_says_event}
-use Rattle.script_journal.proofs.PlayedLines.{moment_said, binds_said, all_lines, line_count, all_ended}
-use Rattle.script_journal.proofs.Bases.{from, unnumbered}
-use Rattle.script_journal.proofs.Accepted.{ruled, accepted_adds, accepted_unrefused}
 
 -- ---- lines in turn
 

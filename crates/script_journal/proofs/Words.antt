@@ -1,29 +1,9 @@
 -- The line of an event is the line of the words of its command, which says that command.
-use Rattle.std.proofs.Common.{◌≡◌, ℕ, ◌-◌, Bool, true, false, Option, None, Some, Ok, Err, List, [], ◌∷◌, ◌++◌, refl, ap, ◌∙◌, append_assoc, append-nil, arith}
-use Rattle.std.specs.Prelude.{codes}
-use Rattle.std.specs.Fmt.{decimal}
-use Rattle.std.specs.List.{join_with_byte}
-use Rattle.scope_rules.specs.declared.types.values.Value.{Value}
-use Rattle.scope_rules.specs.declared.types.values.Value.TheVariants.{Num, Text}
-use Rattle.scope_rules.specs.declared.types.joiners.Policy.{Policy}
-use Rattle.scope_rules.specs.declared.types.joiners.Policy.TheVariants.{All, Any, AwaitAll, AwaitOk, Until}
-use Rattle.scope_rules.specs.declared.types.joiners.Rule.TheVariants.{FailuresAtLeast, SuccessesAtLeast, SumAtLeast}
-use Rattle.scope_rules.specs.declared.types.events.Event.{Event}
+use Rattle.std.proofs.Common.{[], ℕ, ◌++◌, ◌-◌, ◌∙◌, ◌∷◌, ◌≡◌, Bool, Err, List, None, Ok, Option, Some, ap, append-nil, append_assoc, arith, codes, false, refl, true}
+use Rattle.script_journal.specs.{All, Any, AwaitAll, AwaitOk, Command, Do, Event, Expiry, Fail, FailuresAtLeast, Fits, MoveOn, Num, Policy, SuccessesAtLeast, SumAtLeast, Text, Until, Value, decimal, event_line, join_with_byte}
+use Rattle.script_journal.specs.{joiner_text, line_said, option_words, options_text, policy_word, text_of, the_start, value_text, value_word, without_due, words_of}
+use Rattle.script_journal.proofs.Lemmas.{line_says_the_command}
 use Rattle.scope_rules.specs.declared.types.events.Event.TheVariants as event
-use Rattle.scope_rules.specs.declared.types.events.Expiry.{Expiry}
-use Rattle.scope_rules.specs.declared.types.events.Expiry.TheVariants.{Fail, MoveOn}
-use Rattle.scope_rules.specs.Names.{text_of}
-use Rattle.scope_rules.specs.Origin.{the_start}
-use Rattle.scope_rules.specs.Texts.{value_text}
-use Rattle.scope_log.specs.LogText.{joiner_text, options_text}
-use Rattle.script_words.specs.declared.commands.Command.TheVariants.{Do}
-use Rattle.script_words.specs.declared.commands.Line.TheVariants.{Command}
-use Rattle.script_words.specs.Lines.{line_said}
-use Rattle.script_words.specs.Spelling.{words_of, value_word, policy_word, option_words}
-use Rattle.script_words.proofs.SpelledLines.{line_says_the_command}
-use Rattle.script_journal.specs.Script.{event_line}
-use Rattle.scope_log.specs.Dues.{without_due}
-use Rattle.script_journal.specs.Journals.{Fits}
 
 value_spelled : (value : Value) → value_text value ≡ value_word value
 value_spelled (Num number) = refl

@@ -1,13 +1,8 @@
 -- A history behind a retirement, with scopes and tasks counted from the retirement on.
-use Rattle.std.specs.Prelude.{◌≡◌, ℕ, ◌-◌, map}
-use Rattle.scope_rules.specs.declared.types.capacity.Limits.{Limits}
-use Rattle.scope_rules.specs.declared.types.events.Event.{Event}
+use Rattle.std.specs.Prelude.{ℕ, ◌-◌, ◌≡◌, map}
+use Rattle.script_journal.specs.Words.{Event, History, Legal, Limits, without_dues}
+use Rattle.script_journal.specs.{Journals.AllFit, Journals.BaseFits, Journals.RunsTo, Script.script_text}
 use Rattle.scope_rules.specs.declared.types.events.Event.TheVariants as event
-use Rattle.scope_rules.specs.History.{History}
-use Rattle.scope_rules.specs.Legal.{Legal}
-use Rattle.scope_log.specs.Dues.{without_dues}
-use Rattle.script_journal.specs.Journals.{AllFit, BaseFits, RunsTo}
-use Rattle.script_journal.specs.Script.{script_text}
 
 -- the event of scopes and tasks that are counted behind so many of each; main, which is 0, stays 0
 abbrev pub renumbered : (scopes tasks : ℕ) → Event → Event

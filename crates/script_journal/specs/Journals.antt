@@ -1,18 +1,7 @@
 -- What a journal leaves when it is run as a script.
-use Rattle.std.specs.Prelude.{◌≡◌, ℕ, zero, suc, ◌+◌, ◌≤◌, ◌<◌, ◌^◌, Some, List, [], ◌∷◌, length, slice_get}
-use Rattle.scope_rules.specs.declared.types.capacity.Limits.{Limits}
-use Rattle.scope_rules.specs.declared.types.events.Binding.{Binding}
-use Rattle.scope_rules.specs.declared.types.events.Event.{Event}
-use Rattle.scope_rules.specs.History.{History}
-use Rattle.scope_rules.specs.Legal.{Legal}
-use Rattle.scope_rules.specs.Origin.{Origin, the_start}
-use Rattle.scope_log.specs.Dues.{without_due, without_dues}
-use Rattle.script_words.specs.declared.commands.Command.TheVariants.{Do}
-use Rattle.script_words.specs.Spelling.{HasWords, IsValue}
+use Rattle.std.specs.Prelude.{[], ℕ, ◌+◌, ◌<◌, ◌^◌, ◌∷◌, ◌≡◌, ◌≤◌, List, Some, length, slice_get, suc, zero}
+use Rattle.script_journal.specs.Words.{Binding, Do, Event, HasWords, History, IsValue, Legal, Limits, Origin, begun_line, ended_lines, no_refusals, realm_of_script, tally_of_script, the_start, without_due, without_dues}
 use Rattle.script_journal.specs.Script.{script_text}
-use Rattle.scope_script.specs.Cutting.{ended_lines, begun_line}
-use Rattle.scope_script.specs.Sessions.{realm_of_script}
-use Rattle.scope_script.specs.Tallies.{no_refusals, tally_of_script}
 
 -- the numbers of the event fit their types
 abbrev pub Fits : Event → Type 0

@@ -1,16 +1,8 @@
 -- The script of a history: the commands that a fresh realm is told to come to it. Scopes and tasks are counted from the
 -- history's base on, as a fresh realm counts them; main stays 0.
-use Rattle.std.specs.Prelude.{ℕ, zero, suc, ◌-◌, List, [], ◌∷◌, ◌++◌, codes}
-use Rattle.std.specs.List.{flat_map}
-use Rattle.std.specs.Fmt.{decimal}
-use Rattle.scope_rules.specs.declared.types.events.Binding.{Binding}
-use Rattle.scope_rules.specs.declared.types.events.Event.{Event}
+use Rattle.std.specs.Prelude.{[], ℕ, ◌++◌, ◌-◌, ◌∷◌, List, codes, suc, zero}
+use Rattle.script_journal.specs.Words.{Binding, Event, History, Origin, decimal, end_line, flat_map, joiner_text, move_line, options_text, text_of, value_text}
 use Rattle.scope_rules.specs.declared.types.events.Event.TheVariants as event
-use Rattle.scope_rules.specs.History.{History}
-use Rattle.scope_rules.specs.Names.{text_of}
-use Rattle.scope_rules.specs.Origin.{Origin}
-use Rattle.scope_rules.specs.Texts.{value_text}
-use Rattle.scope_log.specs.LogText.{end_line, joiner_text, move_line, options_text}
 
 -- scope s and task k, as they are counted from the base on; an actor is counted as a task, so that main is 0
 abbrev pub scope_since : Origin → ℕ → ℕ

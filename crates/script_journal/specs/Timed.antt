@@ -1,10 +1,6 @@
 -- The script of a history with the times of its events.
-use Rattle.std.specs.Prelude.{◌++◌, ◌==◌, ◌∷◌, ℕ, zero, suc, cond, List, [], length, slice_get, Option, Some, None, codes}
-use Rattle.std.specs.List.{flat_map, range_with_len}
-use Rattle.std.specs.Fmt.{decimal}
-use Rattle.scope_rules.specs.declared.types.events.Event.{Event}
-use Rattle.scope_rules.specs.History.{History}
-use Rattle.scope_rules.specs.Origin.{Origin}
+use Rattle.std.specs.Prelude.{[], ℕ, ◌++◌, ◌==◌, ◌∷◌, List, None, Option, Some, codes, cond, length, slice_get, suc, zero}
+use Rattle.script_journal.specs.Words.{Event, History, Origin, decimal, flat_map, range_with_len}
 use Rattle.script_journal.specs.Script.{binds_text, event_line, moment_text, script_text}
 
 -- the comment that says a time, in milliseconds

@@ -1,9 +1,7 @@
 //! The numbers of events and of a base fit their types, so that a script can say them.
 
-ghost use Rattle.std.specs.Prelude.{◌≡◌, ◌≤◌, ℕ, Some, length, slice_get};
-ghost use Rattle.scope_rules.specs.declared.types.events.Binding.{Binding};
-ghost use Rattle.script_words.specs.Spelling.{IsEnd, IsMoment, IsPolicy, IsSmall, IsValue};
-ghost use Rattle.script_journal.specs.Journals.{AllFit, BaseFits, Fits};
+ghost use Rattle.std.specs.Prelude.{ℕ, ◌≡◌, ◌≤◌, Some, length, slice_get};
+ghost use Rattle.script_journal.specs.{AllFit, BaseFits, Binding, Fits, IsEnd, IsMoment, IsPolicy, IsSmall, IsValue};
 
 use scope_rules::{Base, Binding, End, Event, Limits, Policy, Rule, Value};
 

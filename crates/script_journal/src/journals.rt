@@ -1,10 +1,6 @@
 //! The journal of a realm.
 ghost use Rattle.std.specs.Prelude.{◌≡◌, IfOk, string_bytes};
-ghost use Rattle.scope_rules.specs.Origin.{the_start};
-ghost use Rattle.scope_log.specs.Dues.{without_dues};
-ghost use Rattle.script_journal.specs.Script.{script_text};
-ghost use Rattle.script_journal.specs.Anew.{anew};
-ghost use Rattle.script_journal.specs.Journals.{RunsTo};
+ghost use Rattle.script_journal.specs.{RunsTo, anew, script_text, the_start, without_dues};
 
 use crate::fitting::{base_fits, events_fit};
 use crate::script_of;

@@ -1,8 +1,6 @@
 //! The laws of journals. Each function does nothing: its contract is the law.
 
-ghost use Rattle.script_journal.specs.Anew.{JournalBringsAnew, JournalCountsAnew, NumbersDecideNothing};
-ghost use Rattle.script_journal.specs.Journals.{JournalIsAScript, JournalStays, JournalTellsAll, NoLineIsLost};
-ghost use Rattle.script_journal.specs.Timed.{TimesAreComments};
+ghost use Rattle.script_journal.specs.{JournalBringsAnew, JournalCountsAnew, JournalIsAScript, JournalStays, JournalTellsAll, NoLineIsLost, NumbersDecideNothing, TimesAreComments};
 
 /// A journal is a script. Of a legal history that began fresh, within limits, the script brings a fresh realm of
 /// these limits to that history again, with labels that expect no end: a script says none. No line of it is

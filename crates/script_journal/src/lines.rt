@@ -1,6 +1,5 @@
 //! The command of an event.
-ghost use Rattle.std.specs.Prelude.{Some};
-ghost use Rattle.script_journal.specs.Script.{event_line, pair_text};
+ghost use Rattle.script_journal.specs.{Some, event_line, pair_text};
 
 use scope_log::{ShownEnd, ShownJoiner, ShownOptions};
 use scope_rules::{Actor, Base, Binding, Event, ScopeId};

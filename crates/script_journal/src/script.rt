@@ -1,6 +1,6 @@
 //! The script.
-ghost use Rattle.std.specs.Prelude.{◌≡◌, ◌++◌, IfOk, Some, string_bytes};
-ghost use Rattle.script_journal.specs.Script.{binds_text, events_text, moment_text, script_text};
+ghost use Rattle.std.specs.Prelude.{◌++◌, ◌≡◌, IfOk, Some, string_bytes};
+ghost use Rattle.script_journal.specs.{binds_text, events_text, moment_text, script_text};
 
 use crate::lines::{ShownEvent, ShownPair};
 use scope_rules::{Base, Binding, Event};

@@ -1,6 +1,6 @@
 //! The script of a history with the times of its events.
-ghost use Rattle.std.specs.Prelude.{◌≡◌, ◌++◌, IfOk, OnOk, Some, string_bytes};
-ghost use Rattle.script_journal.specs.Timed.{at_text, new_time, timed_line, timed_lines, timed_text};
+ghost use Rattle.std.specs.Prelude.{◌++◌, ◌≡◌, IfOk, OnOk, Some, string_bytes};
+ghost use Rattle.script_journal.specs.{at_text, new_time, timed_line, timed_lines, timed_text};
 
 use crate::lines::ShownEvent;
 use crate::script::ShownScript;

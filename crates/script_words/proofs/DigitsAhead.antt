@@ -1,14 +1,8 @@
 -- The digits before the first space.
-use Rattle.std.proofs.Common.{◌≡◌, ◌≢◌, ℕ, ◌+◌, ◌-◌, ◌*◌, ◌<◌, ◌≤◌, false, List, length, get_or, take, get_or-take, length-take, take-take, sym, arith}
-use Rattle.std.specs.Char.{is_ascii_digit}
-use Rattle.std.specs.Int.{IsInRange}
-use Rattle.std.specs.List.{list_all, position_or_len}
-use Rattle.std.specs.Str.Parse.{digits_value}
-use Rattle.std.proofs.lemmas.List.Folds.{list_all_at}
-use Rattle.script_words.specs.Fields.{is_space}
-use Rattle.script_words.specs.Numbers.{word_ahead}
-use Rattle.script_words.proofs.FieldSteps.{no_space_before}
-use Rattle.script_words.proofs.Numerals.{value_at_least}
+use Rattle.std.proofs.Common.{ℕ, ◌*◌, ◌+◌, ◌-◌, ◌<◌, ◌≡◌, ◌≢◌, ◌≤◌, List, arith, false, get_or, get_or-take, length, length-take, sym, take, take-take}
+use Rattle.script_words.specs.{IsInRange, digits_value, is_ascii_digit, is_space, list_all, position_or_len, word_ahead}
+use Rattle.script_words.proofs.Lemmas.{list_all_at}
+use Rattle.script_words.proofs.{FieldSteps.no_space_before, Numerals.value_at_least}
 
 -- none of the bytes so far is a space
 abbrev pub NoSpace : List ℕ → ℕ → Type 0

@@ -1,7 +1,6 @@
 -- Fields taken one after the other.
-use Rattle.std.proofs.Common.{◌≡◌, ℕ, List, [], ◌∷◌, Option, Some, None, refl}
-use Rattle.script_words.specs.Steps.{◌>>=◌}
-use Rattle.script_words.specs.Fields.{first_and_rest, just_one, just_two, just_three}
+use Rattle.std.proofs.Common.{[], ℕ, ◌∷◌, ◌≡◌, List, None, Option, Some, refl}
+use Rattle.script_words.specs.{◌>>=◌, first_and_rest, just_one, just_three, just_two}
 
 -- the field, unless others follow
 abbrev pub alone : List ℕ → Option (List ℕ × List (List ℕ)) → Option (List ℕ)

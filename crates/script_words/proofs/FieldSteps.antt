@@ -1,9 +1,7 @@
 -- How the fields of a text begin.
-use Rattle.std.proofs.Common.{◌≡◌, ◌≢◌, ℕ, zero, suc, ◌<◌, ◌≤◌, Bool, true, false, List, [], ◌∷◌, length, get_or, take, drop, Some, None, refl, sym, ◌∙◌, ap, arith}
-use Rattle.std.specs.List.{filter, slice_split, position_or_len, onto_first}
-use Rattle.std.proofs.lemmas.List.Sums.{position_or_len_is}
-use Rattle.std.proofs.lemmas.Bool.Decides.{nat_tests}
-use Rattle.script_words.specs.Fields.{is_space, is_field, fields, without_spaces, first_and_rest}
+use Rattle.std.proofs.Common.{[], ℕ, ◌<◌, ◌∙◌, ◌∷◌, ◌≡◌, ◌≢◌, ◌≤◌, Bool, List, None, Some, ap, arith, drop, false, get_or, length, refl, suc, sym, take, true, zero}
+use Rattle.script_words.specs.{fields, filter, first_and_rest, is_field, is_space, onto_first, position_or_len, slice_split, without_spaces}
+use Rattle.script_words.proofs.Lemmas.{nat_tests, position_or_len_is}
 
 without_spaces_no : (b : ℕ) (bs : List ℕ) → is_space b ≡ false → without_spaces (b ∷ bs) ≡ b ∷ bs
 unfolding without_spaces

@@ -1,10 +1,8 @@
 -- Words with a space between each two are the fields of the line that they make.
-use Rattle.std.proofs.Common.{◌≡◌, ℕ, ◌*◌, ◌≤◌, ◌&&◌, Bool, true, false, not, nat_le, List, [], ◌∷◌, ◌++◌, length, refl, ◌∙◌, ap, arith, length-append}
-use Rattle.std.specs.List.{All, list_all, join_with_byte}
-use Rattle.std.proofs.lemmas.Bool.Decides.{nat_tests}
-use Rattle.std.proofs.lemmas.List.Splits.{slice_split_none, slice_split_at}
-use Rattle.std.proofs.lemmas.List.Sums.{AllPass-from_list_all}
-use Rattle.script_words.specs.Fields.{is_space, is_field, fields}
+use Rattle.std.proofs.Common.{[], ℕ, ◌&&◌, ◌*◌, ◌++◌, ◌∙◌, ◌∷◌, ◌≡◌, ◌≤◌, Bool, List, ap, arith, false, length, length-append, nat_le, not, refl, true}
+use Rattle.std.specs.List.{All}
+use Rattle.script_words.specs.{fields, is_field, is_space, join_with_byte, list_all}
+use Rattle.script_words.proofs.Lemmas.{AllPass-from_list_all, nat_tests, slice_split_at, slice_split_none}
 
 abbrev pub has_no_space : List ℕ → Bool
 has_no_space word = list_all (λ b. not (is_space b)) word

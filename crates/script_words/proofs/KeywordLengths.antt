@@ -1,12 +1,7 @@
 -- The keyword of a word, by the words of its length alone.
-use Rattle.std.proofs.Common.{◌≡◌, ◌≢◌, ℕ, Bool, true, false, ◌&&◌, nat_eq, nat_lt, List, [], ◌∷◌, length, None, codes, refl, sym, ◌∙◌, arith}
-use Rattle.std.specs.List.{filter, list_all}
-use Rattle.std.specs.Str.{bytes_eq}
-use Rattle.std.proofs.lemmas.Slice.Eq.{bytes_eq-Decides}
-use Rattle.std.proofs.lemmas.Bool.{and_parts}
-use Rattle.std.proofs.lemmas.Bool.Decides.{nat_tests}
-use Rattle.script_words.specs.Keywords.{keyword_said, keyword_beside}
-use Rattle.script_words.specs.declared.keywords.Keyword.{Keyword}
+use Rattle.std.proofs.Common.{[], ℕ, ◌&&◌, ◌∙◌, ◌∷◌, ◌≡◌, ◌≢◌, Bool, List, None, arith, codes, false, length, nat_eq, nat_lt, refl, sym, true}
+use Rattle.script_words.specs.{Keyword, bytes_eq, filter, keyword_beside, keyword_said, list_all}
+use Rattle.script_words.proofs.Lemmas.{and_parts, bytes_eq-Decides, nat_tests}
 use Rattle.script_words.specs.declared.keywords.Keyword.TheVariants as keyword
 use Rattle.script_words.specs.declared.keywords.OneNumber.TheVariants as one
 use Rattle.script_words.specs.declared.keywords.TwoNumbers.TheVariants as two

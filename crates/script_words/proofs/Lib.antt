@@ -16,3 +16,4 @@ pub mod PlainWords
 pub mod SpelledLines
 mod PrintableLines
 pub mod PrintableText
+mod Lemmas

@@ -1,12 +1,7 @@
 -- A word that may be a name says the one name with its text.
-use Rattle.std.proofs.Common.{◌≡◌, ℕ, ◌-◌, Bool, true, false, List, length, replicate, Some, None, refl, sym, ◌∙◌, ap}
-use Rattle.std.proofs.Math.Seq.{take-append_seam}
-use Rattle.scope_rules.specs.NameText.{filled_up, is_name, is_stored}
-use Rattle.scope_rules.specs.Names.{text_of}
-use Rattle.scope_rules.specs.declared.types.names.Name.{Name}
-use Rattle.scope_rules.proofs.NameLemmas.{same_text}
-use Rattle.scope_rules.proofs.StoredNames.{name_is_stored, other_is_not_stored}
-use Rattle.script_words.specs.Words.{name_of, name_if, name_said}
+use Rattle.std.proofs.Common.{ℕ, ◌-◌, ◌∙◌, ◌≡◌, Bool, List, None, Some, ap, false, length, refl, replicate, sym, true}
+use Rattle.script_words.specs.{Name, filled_up, is_name, is_stored, name_if, name_of, name_said, text_of}
+use Rattle.script_words.proofs.Lemmas.{name_is_stored, other_is_not_stored, same_text, take-append_seam}
 
 text_of_name_of : (word : List ℕ) (stored : is_stored (length word) (filled_up word) ≡ true) → text_of (name_of word stored) ≡ word
 unfolding filled_up

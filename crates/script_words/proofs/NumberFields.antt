@@ -1,13 +1,7 @@
 -- A number that is read from a field as the field is walked.
-use Rattle.std.proofs.Common.{◌≡◌, ◌≢◌, ℕ, ◌<◌, ◌≤◌, Bool, true, false, List, [], ◌∷◌, length, get_or, drop, nat_le, Some, None, refl, sym, ◌∙◌, ap, arith}
-use Rattle.std.specs.List.{list_all, position_or_len}
-use Rattle.std.specs.Char.{is_ascii_digit}
-use Rattle.std.proofs.lemmas.Bool.Decides.{nat_tests}
-use Rattle.std.proofs.lemmas.List.{take_all}
-use Rattle.std.proofs.lemmas.List.Folds.{list_all_at}
-use Rattle.std.proofs.lemmas.List.Sums.{passes_at_first}
-use Rattle.script_words.specs.Fields.{is_space, fields, without_spaces}
-use Rattle.script_words.specs.Numbers.{is_numeral, number_said, number_first, word_ahead}
+use Rattle.std.proofs.Common.{[], ℕ, ◌<◌, ◌∙◌, ◌∷◌, ◌≡◌, ◌≢◌, ◌≤◌, Bool, List, None, Some, ap, arith, drop, false, get_or, length, nat_le, refl, sym, true}
+use Rattle.script_words.specs.{fields, is_ascii_digit, is_numeral, is_space, list_all, number_first, number_said, position_or_len, without_spaces, word_ahead}
+use Rattle.script_words.proofs.Lemmas.{list_all_at, nat_tests, passes_at_first, take_all}
 use Rattle.script_words.proofs.FieldSteps.{next_none, next_some}
 
 -- no field, or a first one that is no number

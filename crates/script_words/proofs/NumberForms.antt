@@ -1,13 +1,9 @@
 -- Arguments that begin with numbers, taken one after the other.
-use Rattle.std.proofs.Common.{◌≡◌, ℕ, List, [], ◌∷◌, Option, Some, None, option_map, refl, ap, ◌∙◌}
-use Rattle.script_words.specs.declared.commands.Command.{Command}
+use Rattle.std.proofs.Common.{[], ℕ, ◌∙◌, ◌∷◌, ◌≡◌, List, None, Option, Some, ap, option_map, refl}
+use Rattle.script_words.specs.{◌>>=◌, Command, bind_said, first_and_rest, fork_said, just_one, just_three, just_two, label_of, name_said, number_alone, number_and_word, number_first, number_said, small_first, small_said}
+use Rattle.script_words.specs.{tick_said, two_numbers, value_said}
 use Rattle.scope_rules.specs.declared.types.events.Event.TheVariants as event
 use Rattle.script_words.specs.declared.commands.Command.TheVariants as command
-use Rattle.script_words.specs.Steps.{◌>>=◌}
-use Rattle.script_words.specs.Fields.{first_and_rest, just_one, just_two, just_three}
-use Rattle.script_words.specs.Numbers.{number_first, number_said, small_first, small_said}
-use Rattle.script_words.specs.Words.{name_said, value_said}
-use Rattle.script_words.specs.Forms.{number_alone, two_numbers, number_and_word, fork_said, tick_said, bind_said, label_of}
 
 -- the number, unless fields follow
 abbrev pub number_if_last : ℕ → Option (List ℕ × List (List ℕ)) → Option ℕ

@@ -1,14 +1,7 @@
 -- Numerals, and the value of their first digits.
-use Rattle.std.proofs.Common.{◌≡◌, ℕ, ◌+◌, ◌-◌, ◌*◌, ◌<◌, ◌≤◌, true, List, [], ◌∷◌, length, get_or, take, ◌∙◌, ap, rules, arith}
-use Rattle.std.specs.Char.{is_ascii_digit, digit_value}
-use Rattle.std.specs.Int.{IsInRange}
-use Rattle.std.specs.List.{list_all}
-use Rattle.std.specs.Str.Parse.{digits_value}
-use Rattle.std.proofs.lemmas.Int.Digits.{digits_value_more}
-use Rattle.std.proofs.lemmas.List.Folds.{list_all_more}
-use Rattle.std.proofs.lemmas.Str.{digit_value_digit}
-use Rattle.std.proofs.lemmas.Str.Parse.{IsNumeralModel, numerals_by_value, digits_value-take-le}
-use Rattle.script_words.specs.Numbers.{is_numeral}
+use Rattle.std.proofs.Common.{[], ℕ, ◌*◌, ◌+◌, ◌-◌, ◌<◌, ◌∙◌, ◌∷◌, ◌≡◌, ◌≤◌, List, ap, arith, get_or, length, rules, take, true}
+use Rattle.script_words.specs.{IsInRange, digit_value, digits_value, is_ascii_digit, is_numeral, list_all}
+use Rattle.script_words.proofs.Lemmas.{IsNumeralModel, digit_value_digit, digits_value-take-le, digits_value_more, list_all_more, numerals_by_value}
 
 pub by_digits : IsNumeralModel (λ ds. list_all is_ascii_digit ds ≡ true) (digits_value 10)
 by_digits = numerals_by_value _ (search rules)

@@ -1,12 +1,7 @@
 -- What comes next among the words of an `open`.
-use Rattle.std.proofs.Common.{◌≡◌, ℕ, true, false, List, [], ◌∷◌, Option, Some, None, option_map, refl, sym, ◌∙◌, ap}
-use Rattle.std.specs.Str.{bytes_eq}
-use Rattle.std.proofs.lemmas.Option.{some_pair_parts}
-use Rattle.scope_rules.specs.declared.types.joiners.Policy.{Policy}
-use Rattle.scope_rules.specs.declared.types.joiners.Policy.TheVariants.{AwaitOk}
-use Rattle.script_words.specs.Fields.{first_and_rest}
-use Rattle.script_words.specs.Joiners.{policy_said}
-use Rattle.script_words.specs.Openings.{next_said, policy_next, deadline_said, deadline_next, flag_said, flag_next}
+use Rattle.std.proofs.Common.{[], ℕ, ◌∙◌, ◌∷◌, ◌≡◌, List, None, Option, Some, ap, false, option_map, refl, sym, true}
+use Rattle.script_words.specs.{AwaitOk, Policy, bytes_eq, deadline_next, deadline_said, first_and_rest, flag_next, flag_said, next_said, policy_next, policy_said}
+use Rattle.script_words.proofs.Lemmas.{some_pair_parts}
 
 -- the fields are the first and the rest
 taken : (fs : List (List ℕ)) (word : List ℕ) (others : List (List ℕ)) → Some (word, others) ≡ first_and_rest fs → fs ≡ word ∷ others

@@ -1,26 +1,10 @@
 -- The words of a command are fields of at most 30 bytes.
-use Rattle.std.proofs.Common.{◌≡◌, ℕ, ◌+◌, ◌<◌, ◌≤◌, ◌^◌, ◌==◌, Bool, true, false, not, nat_le, List, [], ◌∷◌, ◌++◌, length, refl, ◌∙◌, arith, length-append, suc, pos, negsuc, ℤ}
-use Rattle.std.specs.Prelude.{codes}
-use Rattle.std.specs.Char.{is_ascii_digit}
-use Rattle.std.specs.Fmt.{decimal, signed_decimal}
-use Rattle.std.specs.Int.Signed.{mag}
-use Rattle.std.specs.List.{list_all}
-use Rattle.std.proofs.lemmas.Bool.Decides.{nat_tests}
-use Rattle.std.proofs.lemmas.Fmt.{digits_decimal, decimal_nonempty, length-decimal-le, length_signed_le}
-use Rattle.std.proofs.lemmas.List.Folds.{list_all-append}
-use Rattle.scope_rules.specs.NameText.{is_name, is_inner}
-use Rattle.scope_rules.specs.Names.{text_of}
-use Rattle.scope_rules.specs.declared.types.names.Name.{Name}
-use Rattle.scope_rules.specs.declared.types.values.Value.{Value}
-use Rattle.scope_rules.specs.declared.types.values.Value.TheVariants.{Num, Text}
-use Rattle.scope_rules.specs.declared.types.joiners.Policy.{Policy}
-use Rattle.scope_rules.specs.declared.types.joiners.Policy.TheVariants.{All, Any, AwaitAll, AwaitOk, Until}
-use Rattle.scope_rules.specs.declared.types.joiners.Rule.TheVariants.{FailuresAtLeast, SuccessesAtLeast, SumAtLeast}
-use Rattle.script_words.specs.Spelling.{value_word, policy_word, IsValue, IsPolicy}
-use Rattle.script_words.specs.Fields.{is_space, is_field}
-use Rattle.script_words.proofs.Numerals.{by_digits}
-use Rattle.script_words.proofs.JoinedFields.{has_no_space, is_word}
-use Rattle.script_words.proofs.SpelledWords.{named_text}
+use Rattle.std.proofs.Common.{[], ℕ, ℤ, ◌++◌, ◌+◌, ◌<◌, ◌==◌, ◌^◌, ◌∙◌, ◌∷◌, ◌≡◌, ◌≤◌, Bool, List, arith, codes, false, length, length-append, nat_le, negsuc, not, pos, refl, suc, true}
+use Rattle.scope_rules.specs.declared.types.joiners.Policy.TheVariants.{All}
+use Rattle.script_words.specs.{Any, AwaitAll, AwaitOk, FailuresAtLeast, IsPolicy, IsValue, Name, Num, Policy, SuccessesAtLeast, SumAtLeast, Text, Until, Value, decimal, is_ascii_digit, is_field, is_inner, is_name, is_space}
+use Rattle.script_words.specs.{list_all, mag, policy_word, signed_decimal, text_of, value_word}
+use Rattle.script_words.proofs.Lemmas.{decimal_nonempty, digits_decimal, length-decimal-le, length_signed_le, list_all-append, nat_tests}
+use Rattle.script_words.proofs.{JoinedFields.has_no_space, JoinedFields.is_word, Numerals.by_digits, SpelledWords.named_text}
 
 false-true : false ≡ true → ⊥
 false-true is = absurd cc

@@ -1,35 +1,19 @@
 -- The line of each reply is printable.
-use Rattle.std.proofs.Common.{List, ◌++◌, Option, None, Some, refl}
-use Rattle.std.proofs.lemmas.List.Folds.{list_all-append}
-use Rattle.std.specs.Prelude.{codes}
-use Rattle.scope_rules.specs.declared.types.answers.Cause.{Cause}
-use Rattle.scope_rules.specs.declared.types.answers.CauseKind.{CauseKind}
+use Rattle.std.proofs.Common.{◌++◌, List, None, Option, Some, codes, refl}
+use Rattle.script_words.specs.{Cause, CauseKind, Counts, Effective, ForkReply, LinesArePrintable, Outcome, Refusal, Stage, State, TaskState, TaskValue, Value, Verdict, cause_line, closed_line, counts_line, end_text, kind_word}
+use Rattle.script_words.specs.{line_of, outcome_text, reply_text, stage_word, state_word, states_text, task_line, task_state_text, task_value_text, until_line, value_text, values_text, word_of}
+use Rattle.script_words.proofs.Lemmas.{list_all-append}
+use Rattle.script_words.proofs.PrintableText.{Shows, decimal_shows, each_shows, name_shows, signed_shows}
 use Rattle.scope_rules.specs.declared.types.answers.CauseKind.TheVariants as kind
-use Rattle.scope_rules.specs.declared.types.answers.Counts.{Counts}
-use Rattle.scope_rules.specs.declared.types.answers.Effective.{Effective}
 use Rattle.scope_rules.specs.declared.types.answers.Effective.TheVariants as effective
-use Rattle.scope_rules.specs.declared.types.answers.ForkReply.{ForkReply}
 use Rattle.scope_rules.specs.declared.types.answers.ForkReply.TheVariants as fork
-use Rattle.scope_rules.specs.declared.types.answers.Stage.{Stage}
 use Rattle.scope_rules.specs.declared.types.answers.Stage.TheVariants as stage
-use Rattle.scope_rules.specs.declared.types.answers.State.{State}
 use Rattle.scope_rules.specs.declared.types.answers.State.TheVariants as state
-use Rattle.scope_rules.specs.declared.types.answers.Verdict.{Verdict}
 use Rattle.scope_rules.specs.declared.types.answers.Verdict.TheVariants as verdict
-use Rattle.scope_rules.specs.declared.types.outcomes.Outcome.{Outcome}
 use Rattle.scope_rules.specs.declared.types.outcomes.Outcome.TheVariants as outcome
-use Rattle.scope_rules.specs.declared.types.outcomes.TaskState.{TaskState}
-use Rattle.scope_rules.specs.declared.types.outcomes.TaskValue.{TaskValue}
-use Rattle.scope_rules.specs.declared.types.refusals.Refusal.{Refusal}
 use Rattle.scope_rules.specs.declared.types.refusals.Refusal.TheVariants as refusal
-use Rattle.scope_rules.specs.declared.types.values.Value.{Value}
 use Rattle.scope_rules.specs.declared.types.values.Value.TheVariants as value
-use Rattle.scope_rules.specs.Refusals.{word_of, line_of}
-use Rattle.scope_rules.specs.Texts.{end_text, kind_word, outcome_text, stage_word, state_word, states_text, task_state_text, task_value_text, value_text, values_text}
 use Rattle.script_words.specs.declared.reply.Reply.TheVariants as reply
-use Rattle.script_words.specs.ReplyText.{task_line, closed_line, cause_line, until_line, counts_line, reply_text}
-use Rattle.script_words.specs.Printable.{LinesArePrintable}
-use Rattle.script_words.proofs.PrintableText.{Shows, decimal_shows, signed_shows, name_shows, each_shows}
 
 value_shows : (v : Value) → Shows (value_text v)
 value_shows (value.Num number) = signed_shows number

@@ -1,19 +1,7 @@
 -- The parts of a line are printable, and so is each line.
-use Rattle.std.proofs.Common.{◌≡◌, ℕ, zero, suc, ◌/◌, ◌%◌, ◌<◌, ◌==◌, true, false, List, [], ◌∷◌, ◌++◌, take, refl, arith, cond}
-use Rattle.std.proofs.Props.{props}
-use Rattle.std.proofs.Math.Logic.{∥∥₁_elim}
-use Rattle.std.proofs.lemmas.Bool.Decides.{nat_tests}
-use Rattle.std.proofs.lemmas.Grind.{common_steps}
-use Rattle.std.proofs.lemmas.List.Folds.{list_all-append}
-use Rattle.std.specs.Cmp.Derive.{both_true}
-use Rattle.std.specs.Fmt.{decimal, signed_decimal, digits, digits_onto, digit_glyph}
-use Rattle.std.specs.List.{list_all, flat_map}
-use Rattle.std.specs.Prelude.{ℤ, pos, negsuc}
-use Rattle.scope_rules.specs.NameText.{is_inner, is_name, is_stored}
-use Rattle.scope_rules.specs.Names.{text_of}
-use Rattle.scope_rules.specs.declared.types.names.Name.{Name}
-use Rattle.scope_rules.proofs.StoredNames.{stored_parts}
-use Rattle.script_words.specs.Printable.{is_printable}
+use Rattle.std.proofs.Common.{[], ℕ, ℤ, ◌%◌, ◌++◌, ◌/◌, ◌<◌, ◌==◌, ◌∷◌, ◌≡◌, List, arith, cond, false, negsuc, pos, refl, suc, take, true, zero}
+use Rattle.script_words.specs.{Name, both_true, decimal, digit_glyph, digits, digits_onto, flat_map, is_inner, is_name, is_printable, is_stored, list_all, signed_decimal, text_of}
+use Rattle.script_words.proofs.Lemmas.{∥∥₁_elim, common_steps, list_all-append, nat_tests, props, stored_parts}
 
 -- the bytes are all printable
 abbrev pub Shows : List ℕ → Type 0

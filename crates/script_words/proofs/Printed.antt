@@ -1,14 +1,7 @@
 -- Numbers are read as they are printed.
-use Rattle.std.proofs.Common.{◌≡◌, ℕ, zero, suc, ◌<◌, ◌≤◌, ◌^◌, ◌&&◌, Bool, true, nat_le, List, [], ◌∷◌, length, get_or, refl, sym, ◌∙◌, ap, arith}
-use Rattle.std.specs.Char.{is_ascii_digit}
-use Rattle.std.specs.Fmt.{decimal}
-use Rattle.std.specs.List.{list_all}
-use Rattle.std.specs.Str.Parse.{digits_value}
-use Rattle.std.proofs.lemmas.Bool.Decides.{nat_tests}
-use Rattle.std.proofs.lemmas.Fmt.{decimal_digit, first_decimal, digits_decimal, digits_value-decimal, decimal-digits_value, decimal_nonempty}
-use Rattle.std.proofs.lemmas.Option.{cond_some}
-use Rattle.script_words.specs.Numbers.{is_numeral, has_no_needless_zero, number_said}
-use Rattle.script_words.specs.NumberLaws.{PrintedNumberIsRead, ReadNumberIsPrinted}
+use Rattle.std.proofs.Common.{[], ℕ, ◌&&◌, ◌<◌, ◌^◌, ◌∙◌, ◌∷◌, ◌≡◌, ◌≤◌, Bool, List, ap, arith, get_or, length, nat_le, refl, suc, sym, true, zero}
+use Rattle.script_words.specs.{PrintedNumberIsRead, ReadNumberIsPrinted, decimal, digits_value, has_no_needless_zero, is_ascii_digit, is_numeral, list_all, number_said}
+use Rattle.script_words.proofs.Lemmas.{cond_some, decimal-digits_value, decimal_digit, decimal_nonempty, digits_decimal, digits_value-decimal, first_decimal, nat_tests}
 use Rattle.script_words.proofs.Numerals.{by_digits, digits_of_numeral, length_of_numeral}
 
 -- a first digit above `0` is no needless zero

@@ -1,16 +1,8 @@
 -- Numbers that may be below 0 are read as they are printed.
-use Rattle.std.proofs.Common.{◌≡◌, ℕ, ℤ, pos, negsuc, zero, suc, ◌-◌, ◌<◌, ◌^◌, ◌==◌, Bool, true, false, List, [], ◌∷◌, length, Option, Some, None, option_map, option_and_then, if◌then◌else◌, refl, sym, ◌∙◌, ap, subst, arith}
-use Rattle.std.specs.Char.{is_ascii_digit}
-use Rattle.std.specs.Fmt.{decimal, signed_decimal}
-use Rattle.std.specs.List.{list_all}
-use Rattle.std.proofs.lemmas.Bool.Decides.{nat_tests}
-use Rattle.std.specs.Int.Signed.{mag}
-use Rattle.std.proofs.lemmas.Option.{same_Some, none-some}
-use Rattle.std.proofs.lemmas.Fmt.{digits_decimal, decimal_nonempty}
-use Rattle.script_words.specs.Numbers.{number_said, negative_said, integer_said}
-use Rattle.script_words.specs.NumberLaws.{PrintedIntegerIsRead, ReadIntegerIsPrinted}
-use Rattle.script_words.proofs.Numerals.{by_digits}
-use Rattle.script_words.proofs.Printed.{printed_number_is_read, read_number_is_printed}
+use Rattle.std.proofs.Common.{[], ℕ, ℤ, ◌-◌, ◌<◌, ◌==◌, ◌^◌, ◌∙◌, ◌∷◌, ◌≡◌, Bool, List, None, Option, Some, ap, arith, false, if◌then◌else◌, length, negsuc, option_and_then, option_map, pos, refl, subst, suc, sym, true, zero}
+use Rattle.script_words.specs.{PrintedIntegerIsRead, ReadIntegerIsPrinted, decimal, integer_said, is_ascii_digit, list_all, mag, negative_said, number_said, signed_decimal}
+use Rattle.script_words.proofs.Lemmas.{decimal_nonempty, digits_decimal, nat_tests, none-some, same_Some}
+use Rattle.script_words.proofs.{Numerals.by_digits, Printed.printed_number_is_read, Printed.read_number_is_printed}
 
 -- a word of digits has no sign
 no_sign : (word : List ℕ) → 0 < length word → list_all is_ascii_digit word ≡ true → integer_said word ≡ option_map pos (number_said 9223372036854775807 word)

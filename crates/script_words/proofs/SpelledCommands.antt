@@ -1,34 +1,15 @@
 -- The words of a command say that command.
-use Rattle.std.proofs.Common.{◌≡◌, ℕ, ◌<◌, ◌^◌, ◌==◌, Bool, true, false, List, [], ◌∷◌, Option, Some, None, Ok, Err, refl, sym, ap, arith}
-use Rattle.std.specs.Prelude.{codes}
-use Rattle.std.specs.Char.{is_ascii_digit}
-use Rattle.std.specs.List.{list_all}
-use Rattle.std.specs.Str.{bytes_eq}
-use Rattle.std.proofs.lemmas.Bool.Decides.{nat_tests}
-use Rattle.std.proofs.lemmas.Fmt.{digits_decimal}
-use Rattle.std.specs.Fmt.{decimal}
-use Rattle.scope_rules.specs.Names.{text_of}
-use Rattle.scope_rules.specs.Ends.{EndValue}
-use Rattle.scope_rules.specs.declared.types.joiners.Policy.{Policy}
-use Rattle.scope_rules.specs.declared.types.events.Options.{Options}
-use Rattle.scope_rules.specs.declared.types.events.Expiry.{Expiry}
+use Rattle.std.proofs.Common.{[], ℕ, ◌<◌, ◌==◌, ◌^◌, ◌∷◌, ◌≡◌, Bool, Err, List, None, Ok, Option, Some, ap, arith, codes, false, refl, sym, true}
+use Rattle.script_words.specs.{Binding, EndValue, Expiry, HasWords, IsEnd, IsMoment, IsPolicy, IsSmall, IsValue, Label, Name, Options, Policy, WordsSayTheCommand, after, bind_said, bytes_eq, command_said, deadline_next, decimal}
+use Rattle.script_words.specs.{end_words, fail_said, fields_said, flag_next, fork_said, form_said, get_said, is_ascii_digit, just_one, just_three, just_two, keyword_said, label_of, list_all, move_said, new_deadline_said}
+use Rattle.script_words.specs.{new_deadline_word, number_alone, ok_said, one_number_said, open_said, opened, option_words, policy_next, policy_word, text_of, tick_said, two_numbers, two_numbers_said, value_word, words_of}
+use Rattle.script_words.proofs.Lemmas.{digits_decimal, nat_tests}
+use Rattle.script_words.proofs.{Numerals.by_digits, SpelledWords.moment_read, SpelledWords.name_read, SpelledWords.policy_read, SpelledWords.small_read, SpelledWords.value_read}
 use Rattle.scope_rules.specs.declared.types.events.Expiry.TheVariants as expiry
-use Rattle.scope_rules.specs.declared.types.events.Binding.{Binding}
-use Rattle.scope_rules.specs.declared.types.names.Name.{Name}
-use Rattle.scope_rules.specs.declared.types.values.Label.{Label}
 use Rattle.scope_rules.specs.declared.types.events.Event.TheVariants as event
 use Rattle.script_words.specs.declared.commands.Query.TheVariants as query
 use Rattle.script_words.specs.declared.commands.Command.TheVariants as command
 use Rattle.script_words.specs.declared.commands.Line.TheVariants as line
-use Rattle.script_words.specs.Fields.{just_one, just_two, just_three}
-use Rattle.script_words.specs.Joiners.{after}
-use Rattle.script_words.specs.Keywords.{keyword_said}
-use Rattle.script_words.specs.Openings.{policy_next, deadline_next, flag_next, opened, open_said}
-use Rattle.script_words.specs.Forms.{number_alone, two_numbers, label_of, fork_said, ok_said, fail_said, new_deadline_said, move_said, tick_said, bind_said, get_said, one_number_said, two_numbers_said, form_said}
-use Rattle.script_words.specs.Lines.{command_said, fields_said}
-use Rattle.script_words.specs.Spelling.{IsSmall, IsMoment, IsValue, IsEnd, IsPolicy, HasWords, WordsSayTheCommand, words_of, value_word, policy_word, option_words, end_words, new_deadline_word}
-use Rattle.script_words.proofs.Numerals.{by_digits}
-use Rattle.script_words.proofs.SpelledWords.{small_read, moment_read, name_read, value_read, policy_read}
 
 number_alone_read : (n : ℕ) → IsSmall n → number_alone (decimal n ∷ []) ≡ Some n
 unfolding number_alone just_one

@@ -1,21 +1,14 @@
 -- The line of a command says that command.
-use Rattle.std.proofs.Common.{◌≡◌, ℕ, ◌≤◌, Bool, true, false, nat_lt, List, [], ◌∷◌, ◌++◌, length, Option, Some, None, Ok, Err, refl, arith}
-use Rattle.std.specs.Fmt.{decimal}
-use Rattle.std.specs.List.{list_all, join_with_byte}
-use Rattle.std.proofs.lemmas.Bool.Decides.{nat_tests}
-use Rattle.scope_rules.specs.Names.{text_of}
-use Rattle.scope_rules.specs.declared.types.events.Expiry.{Expiry}
+use Rattle.std.proofs.Common.{[], ℕ, ◌++◌, ◌∷◌, ◌≡◌, ◌≤◌, Bool, Err, List, None, Ok, Option, Some, arith, false, length, nat_lt, refl, true}
+use Rattle.script_words.specs.{Command, Expiry, HasWords, IsMoment, IsSmall, LINE_LIMIT, LineSaysTheCommand, deadline_words, decimal, join_with_byte, line_said, list_all, move_on_words, new_deadline_word, shield_words, text_of}
+use Rattle.script_words.specs.{value_word, words_of}
+use Rattle.script_words.proofs.Lemmas.{nat_tests}
+use Rattle.script_words.proofs.{JoinedFields.fields_of_joined, JoinedFields.is_word, JoinedFields.length_of_joined, PlainWords.deadline_is_word, PlainWords.name_is_word, PlainWords.number_is_word, PlainWords.policy_is_word}
+use Rattle.script_words.proofs.{PlainWords.value_is_word, SpelledCommands.words_say_the_command}
 use Rattle.scope_rules.specs.declared.types.events.Expiry.TheVariants as expiry
-use Rattle.script_words.specs.declared.commands.Command.{Command}
 use Rattle.scope_rules.specs.declared.types.events.Event.TheVariants as event
 use Rattle.script_words.specs.declared.commands.Query.TheVariants as query
 use Rattle.script_words.specs.declared.commands.Command.TheVariants as command
-use Rattle.script_words.specs.declared.lines.TheConstants.{LINE_LIMIT}
-use Rattle.script_words.specs.Lines.{line_said}
-use Rattle.script_words.specs.Spelling.{IsSmall, IsMoment, HasWords, LineSaysTheCommand, words_of, value_word, deadline_words, move_on_words, shield_words, new_deadline_word}
-use Rattle.script_words.proofs.JoinedFields.{is_word, fields_of_joined, length_of_joined}
-use Rattle.script_words.proofs.PlainWords.{number_is_word, name_is_word, value_is_word, policy_is_word, deadline_is_word}
-use Rattle.script_words.proofs.SpelledCommands.{words_say_the_command}
 
 small_is_word : (n : ℕ) → IsSmall n → is_word (decimal n) ≡ true
 small_is_word n small = number_is_word n (omega (arith, small))

@@ -1,27 +1,10 @@
 -- Words that are printed are read.
-use Rattle.std.proofs.Common.{◌≡◌, ℕ, ◌<◌, ◌≤◌, ◌^◌, ◌==◌, ◌&&◌, Bool, true, false, List, [], ◌∷◌, Some, None, refl, arith}
-use Rattle.std.specs.Char.{is_ascii_digit}
-use Rattle.std.specs.Fmt.{decimal}
-use Rattle.std.specs.List.{list_all}
-use Rattle.std.proofs.Props.{props}
-use Rattle.std.proofs.Math.Logic.{∥∥₁_elim}
-use Rattle.std.proofs.lemmas.Bool.Decides.{nat_tests}
-use Rattle.scope_rules.specs.NameText.{is_name}
-use Rattle.scope_rules.specs.Names.{text_of}
-use Rattle.scope_rules.specs.declared.types.names.Name.{Name}
-use Rattle.scope_rules.specs.declared.types.values.Value.{Value}
-use Rattle.scope_rules.specs.declared.types.values.Value.TheVariants.{Num, Text}
-use Rattle.scope_rules.specs.declared.types.joiners.Policy.{Policy}
-use Rattle.scope_rules.specs.declared.types.joiners.Policy.TheVariants.{All, Any, AwaitAll, AwaitOk, Until}
-use Rattle.scope_rules.specs.declared.types.joiners.Rule.TheVariants.{FailuresAtLeast, SuccessesAtLeast, SumAtLeast}
-use Rattle.scope_rules.proofs.StoredNames.{stored_parts}
-use Rattle.script_words.specs.Numbers.{is_numeral, has_no_needless_zero, number_said, small_said, moment_said, integer_said}
-use Rattle.script_words.specs.Words.{name_said, value_said}
-use Rattle.script_words.specs.Joiners.{after, rule_said, policy_said}
-use Rattle.script_words.specs.Spelling.{value_word, policy_word, IsValue, IsPolicy}
-use Rattle.script_words.proofs.NameWords.{name_said_some}
-use Rattle.script_words.proofs.Printed.{printed_number_is_read}
-use Rattle.script_words.proofs.PrintedIntegers.{printed_integer_is_read}
+use Rattle.std.proofs.Common.{[], ℕ, ◌&&◌, ◌<◌, ◌==◌, ◌^◌, ◌∷◌, ◌≡◌, ◌≤◌, Bool, List, None, Some, arith, false, refl, true}
+use Rattle.scope_rules.specs.declared.types.joiners.Policy.TheVariants.{All}
+use Rattle.script_words.specs.{Any, AwaitAll, AwaitOk, FailuresAtLeast, IsPolicy, IsValue, Name, Num, Policy, SuccessesAtLeast, SumAtLeast, Text, Until, Value, after, decimal, has_no_needless_zero, integer_said, is_ascii_digit}
+use Rattle.script_words.specs.{is_name, is_numeral, list_all, moment_said, name_said, number_said, policy_said, policy_word, rule_said, small_said, text_of, value_said, value_word}
+use Rattle.script_words.proofs.Lemmas.{∥∥₁_elim, nat_tests, props, stored_parts}
+use Rattle.script_words.proofs.{NameWords.name_said_some, Printed.printed_number_is_read, PrintedIntegers.printed_integer_is_read}
 
 pub small_read : (n : ℕ) → n < 2 ^ 32 → small_said (decimal n) ≡ Some n
 small_read n small = printed_number_is_read 4294967295 n (omega (arith, small)) (omega (arith, small))

@@ -1,6 +1,6 @@
 -- The fields of a line.
-use Rattle.std.specs.Prelude.{ℕ, Bool, true, false, cond, ◌==◌, List, [], ◌∷◌, Option, Some, None}
-use Rattle.std.specs.List.{filter, slice_split}
+use Rattle.std.specs.Prelude.{[], ℕ, ◌==◌, ◌∷◌, Bool, List, None, Option, Some, cond, false, true}
+use Rattle.script_words.specs.Terms.{filter, slice_split}
 
 -- the space
 abbrev pub is_space : ℕ → Bool

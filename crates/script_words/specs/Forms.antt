@@ -1,24 +1,13 @@
 -- The forms of commands.
-use Rattle.std.specs.Prelude.{ℕ, List, Option, Some, None, option_map, Ok, Err, codes, if◌then◌else◌}
-use Rattle.std.specs.Str.{bytes_eq}
-use Rattle.scope_rules.specs.declared.types.names.Name.{Name}
-use Rattle.scope_rules.specs.declared.types.values.Label.{Label}
-use Rattle.scope_rules.specs.Ends.{EndValue}
-use Rattle.script_words.specs.declared.commands.Command.{Command}
+use Rattle.std.specs.Prelude.{ℕ, Err, List, None, Ok, Option, Some, codes, if◌then◌else◌, option_map}
+use Rattle.script_words.specs.Terms.{Command, EndValue, Keyword, Label, Name, OneNumber, TwoNumbers, bytes_eq}
+use Rattle.script_words.specs.{Steps.◌>>=◌, Fields.just_one, Fields.just_three, Fields.just_two, Numbers.moment_said, Numbers.small_said, Openings.open_said, Words.name_said, Words.value_said}
 use Rattle.scope_rules.specs.declared.types.events.Event.TheVariants as event
 use Rattle.script_words.specs.declared.commands.Query.TheVariants as query
 use Rattle.script_words.specs.declared.commands.Command.TheVariants as command
-use Rattle.script_words.specs.declared.keywords.Keyword.{Keyword}
 use Rattle.script_words.specs.declared.keywords.Keyword.TheVariants as keyword
-use Rattle.script_words.specs.declared.keywords.OneNumber.{OneNumber}
 use Rattle.script_words.specs.declared.keywords.OneNumber.TheVariants as one
-use Rattle.script_words.specs.declared.keywords.TwoNumbers.{TwoNumbers}
 use Rattle.script_words.specs.declared.keywords.TwoNumbers.TheVariants as two
-use Rattle.script_words.specs.Steps.{◌>>=◌}
-use Rattle.script_words.specs.Fields.{just_one, just_two, just_three}
-use Rattle.script_words.specs.Numbers.{small_said, moment_said}
-use Rattle.script_words.specs.Words.{name_said, value_said}
-use Rattle.script_words.specs.Openings.{open_said}
 
 -- the number that is the only argument
 unfoldable pub number_alone : List (List ℕ) → Option ℕ

@@ -1,13 +1,8 @@
 -- Joiners as words.
-use Rattle.std.specs.Prelude.{ℕ, List, length, take, drop, Option, Some, None, option_map, codes, if◌then◌else◌}
-use Rattle.std.specs.Option.{option_or}
-use Rattle.std.specs.Str.{bytes_eq}
-use Rattle.scope_rules.specs.declared.types.joiners.Policy.{Policy}
-use Rattle.scope_rules.specs.declared.types.joiners.Policy.TheVariants.{All, Any, AwaitAll, AwaitOk, Until}
-use Rattle.scope_rules.specs.declared.types.joiners.Rule.{Rule}
-use Rattle.scope_rules.specs.declared.types.joiners.Rule.TheVariants.{FailuresAtLeast, SuccessesAtLeast, SumAtLeast}
-use Rattle.script_words.specs.Steps.{◌>>=◌}
-use Rattle.script_words.specs.Numbers.{small_said, integer_said}
+use Rattle.std.specs.Prelude.{ℕ, List, None, Option, Some, codes, drop, if◌then◌else◌, length, option_map, take}
+use Rattle.scope_rules.specs.declared.types.joiners.Policy.TheVariants.{All}
+use Rattle.script_words.specs.Terms.{Any, AwaitAll, AwaitOk, FailuresAtLeast, Policy, Rule, SuccessesAtLeast, SumAtLeast, Until, bytes_eq, option_or}
+use Rattle.script_words.specs.{Steps.◌>>=◌, Numbers.integer_said, Numbers.small_said}
 
 -- what is after the prefix, in a word that begins with it
 unfoldable pub after : List ℕ → List ℕ → Option (List ℕ)

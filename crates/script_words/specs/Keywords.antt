@@ -1,7 +1,6 @@
 -- The words that forms begin with.
-use Rattle.std.specs.Prelude.{ℕ, List, [], ◌∷◌, Option, Some, None, codes, if◌then◌else◌}
-use Rattle.std.specs.Str.{bytes_eq}
-use Rattle.script_words.specs.declared.keywords.Keyword.{Keyword}
+use Rattle.std.specs.Prelude.{[], ℕ, ◌∷◌, List, None, Option, Some, codes, if◌then◌else◌}
+use Rattle.script_words.specs.Terms.{Keyword, bytes_eq}
 use Rattle.script_words.specs.declared.keywords.Keyword.TheVariants as keyword
 use Rattle.script_words.specs.declared.keywords.OneNumber.TheVariants as one
 use Rattle.script_words.specs.declared.keywords.TwoNumbers.TheVariants as two

@@ -13,3 +13,20 @@ pub mod Spelling
 pub mod ReplyText
 pub mod Printable
 pub mod Near
+pub mod Terms
+unfoldable pub use Terms.*
+unfoldable pub use Fields.*
+unfoldable pub use Forms.*
+unfoldable pub use Joiners.*
+unfoldable pub use Keywords.*
+unfoldable pub use Lines.{command_said, fields_said, line_said}
+unfoldable pub use Near.*
+pub use NumberLaws.*
+unfoldable pub use Numbers.*
+unfoldable pub use Openings.*
+pub use Printable.*
+unfoldable pub use ReplyText.*
+unfoldable pub use Spelling.*
+pub use Steps.*
+unfoldable pub use Words.*
+pub use Written.*

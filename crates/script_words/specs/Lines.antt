@@ -1,13 +1,8 @@
 -- What a line says.
-use Rattle.std.specs.Prelude.{ℕ, Bool, false, ◌==◌, nat_lt, List, [], ◌∷◌, length, Option, Some, None, if◌then◌else◌}
-use Rattle.script_words.specs.declared.commands.Command.{Command}
-use Rattle.script_words.specs.declared.commands.Line.{Line}
+use Rattle.std.specs.Prelude.{[], ℕ, ◌==◌, ◌∷◌, Bool, List, None, Option, Some, false, if◌then◌else◌, length, nat_lt}
+use Rattle.script_words.specs.Terms.{Command, LINE_LIMIT, Line}
+use Rattle.script_words.specs.{Steps.◌>>=◌, Fields.fields, Forms.form_said, Keywords.keyword_said}
 use Rattle.script_words.specs.declared.commands.Line.TheVariants as line
-use Rattle.script_words.specs.declared.lines.TheConstants.{LINE_LIMIT}
-use Rattle.script_words.specs.Steps.{◌>>=◌}
-use Rattle.script_words.specs.Fields.{fields}
-use Rattle.script_words.specs.Keywords.{keyword_said}
-use Rattle.script_words.specs.Forms.{form_said}
 
 -- the command that these fields are
 unfoldable pub command_said : List ℕ → List (List ℕ) → Option Command

@@ -1,6 +1,6 @@
 -- Which name is meant by one that differs from it by an edit.
-use Rattle.std.specs.Prelude.{ℕ, ◌==◌, Bool, true, false, ◌&&◌, ◌||◌, List, [], ◌∷◌, Option, Some, None, if◌then◌else◌}
-use Rattle.std.specs.Str.{bytes_eq}
+use Rattle.std.specs.Prelude.{[], ℕ, ◌&&◌, ◌==◌, ◌||◌, ◌∷◌, Bool, List, None, Option, Some, false, if◌then◌else◌, true}
+use Rattle.script_words.specs.Terms.{bytes_eq}
 
 -- two neighbours stand the other way round, and the rest is the same
 abbrev pub swapped : ℕ → List ℕ → ℕ → List ℕ → Bool

@@ -1,8 +1,7 @@
 -- Numbers as words, by how they are printed.
-use Rattle.std.specs.Prelude.{◌≡◌, ℕ, ◌<◌, ◌≤◌, ◌^◌, ℤ, List, Some}
-use Rattle.std.specs.Fmt.{decimal, signed_decimal}
-use Rattle.std.specs.Int.Signed.{mag}
-use Rattle.script_words.specs.Numbers.{number_said, integer_said}
+use Rattle.std.specs.Prelude.{ℕ, ℤ, ◌<◌, ◌^◌, ◌≡◌, ◌≤◌, List, Some}
+use Rattle.script_words.specs.Terms.{decimal, mag, signed_decimal}
+use Rattle.script_words.specs.Numbers.{integer_said, number_said}
 
 -- a number that is printed is read as that number
 abbrev pub PrintedNumberIsRead : Type 0

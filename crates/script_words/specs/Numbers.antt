@@ -1,10 +1,7 @@
 -- Numbers as words: decimal digits, with no needless zero in front.
-use Rattle.std.specs.Prelude.{ℕ, ◌-◌, ℤ, pos, negsuc, Bool, true, false, ◌&&◌, ◌==◌, nat_le, List, [], ◌∷◌, take, Option, Some, None, option_map, if◌then◌else◌}
-use Rattle.std.specs.Char.{is_ascii_digit}
-use Rattle.std.specs.List.{list_all, position_or_len}
-use Rattle.std.specs.Str.Parse.{digits_value}
-use Rattle.script_words.specs.Steps.{◌>>=◌}
-use Rattle.script_words.specs.Fields.{is_space, first_and_rest}
+use Rattle.std.specs.Prelude.{[], ℕ, ℤ, ◌&&◌, ◌-◌, ◌==◌, ◌∷◌, Bool, List, None, Option, Some, false, if◌then◌else◌, nat_le, negsuc, option_map, pos, take, true}
+use Rattle.script_words.specs.Terms.{digits_value, is_ascii_digit, list_all, position_or_len}
+use Rattle.script_words.specs.{Steps.◌>>=◌, Fields.first_and_rest, Fields.is_space}
 
 -- one digit, or a first one that is no `0`
 abbrev pub has_no_needless_zero : List ℕ → Bool

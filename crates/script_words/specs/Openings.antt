@@ -1,18 +1,10 @@
 -- The form of `open`.
-use Rattle.std.specs.Prelude.{ℕ, Bool, true, false, List, [], ◌∷◌, Option, Some, None, option_map, codes, if◌then◌else◌}
-use Rattle.std.specs.Str.{bytes_eq}
-use Rattle.scope_rules.specs.declared.types.joiners.Policy.{Policy}
-use Rattle.scope_rules.specs.declared.types.joiners.Policy.TheVariants.{AwaitOk}
-use Rattle.scope_rules.specs.declared.types.events.Options.{Options}
-use Rattle.scope_rules.specs.declared.types.events.Expiry.{Expiry}
+use Rattle.std.specs.Prelude.{[], ℕ, ◌∷◌, Bool, List, None, Option, Some, codes, false, if◌then◌else◌, option_map, true}
+use Rattle.script_words.specs.Terms.{AwaitOk, Command, Expiry, Options, Policy, bytes_eq}
+use Rattle.script_words.specs.{Steps.◌>>=◌, Fields.first_and_rest, Joiners.after, Joiners.policy_said, Numbers.moment_said, Numbers.small_said}
 use Rattle.scope_rules.specs.declared.types.events.Expiry.TheVariants as expiry
-use Rattle.script_words.specs.declared.commands.Command.{Command}
 use Rattle.scope_rules.specs.declared.types.events.Event.TheVariants as event
 use Rattle.script_words.specs.declared.commands.Command.TheVariants as command
-use Rattle.script_words.specs.Steps.{◌>>=◌}
-use Rattle.script_words.specs.Fields.{first_and_rest}
-use Rattle.script_words.specs.Numbers.{small_said, moment_said}
-use Rattle.script_words.specs.Joiners.{after, policy_said}
 
 -- what the word was found to be and the fields after it, or else what holds without it, and all the
 -- fields

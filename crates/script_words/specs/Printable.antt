@@ -1,7 +1,6 @@
 -- That the line of a reply is one line of text.
-use Rattle.std.specs.Prelude.{◌≡◌, ℕ, Bool, true, ◌&&◌, nat_le}
-use Rattle.std.specs.List.{list_all}
-use Rattle.script_words.specs.declared.reply.Reply.{Reply}
+use Rattle.std.specs.Prelude.{ℕ, ◌&&◌, ◌≡◌, Bool, nat_le, true}
+use Rattle.script_words.specs.Terms.{Reply, list_all}
 use Rattle.script_words.specs.ReplyText.{reply_text}
 
 -- an ASCII byte from the space to `~`

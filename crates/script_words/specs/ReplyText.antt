@@ -1,17 +1,9 @@
 -- The line of each reply, without the line feed.
-use Rattle.std.specs.Prelude.{ℕ, List, ◌++◌, Option, None, Some, codes}
-use Rattle.std.specs.Fmt.{decimal}
-use Rattle.scope_rules.specs.Refusals.{line_of}
-use Rattle.scope_rules.specs.Texts.{fault_text, kind_word, outcome_text, stage_word, state_word, value_text}
-use Rattle.scope_rules.specs.declared.types.answers.Cause.{Cause}
-use Rattle.scope_rules.specs.declared.types.answers.Counts.{Counts}
-use Rattle.scope_rules.specs.declared.types.answers.Effective.{Effective}
+use Rattle.std.specs.Prelude.{ℕ, ◌++◌, List, None, Option, Some, codes}
+use Rattle.script_words.specs.Terms.{Cause, Counts, Effective, ForkReply, Reply, Verdict, decimal, fault_text, kind_word, line_of, outcome_text, stage_word, state_word, value_text}
 use Rattle.scope_rules.specs.declared.types.answers.Effective.TheVariants as effective
-use Rattle.scope_rules.specs.declared.types.answers.ForkReply.{ForkReply}
 use Rattle.scope_rules.specs.declared.types.answers.ForkReply.TheVariants as fork
-use Rattle.scope_rules.specs.declared.types.answers.Verdict.{Verdict}
 use Rattle.scope_rules.specs.declared.types.answers.Verdict.TheVariants as verdict
-use Rattle.script_words.specs.declared.reply.Reply.{Reply}
 use Rattle.script_words.specs.declared.reply.Reply.TheVariants as reply
 
 abbrev pub task_line : ForkReply → List ℕ

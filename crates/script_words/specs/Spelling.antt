@@ -1,25 +1,14 @@
 -- Each command as the words of a line.
-use Rattle.std.specs.Prelude.{◌≡◌, ℕ, ◌<◌, ◌^◌, Bool, true, false, List, [], ◌∷◌, ◌++◌, Option, Some, None, Ok, Err, codes}
-use Rattle.std.specs.Fmt.{decimal, signed_decimal}
-use Rattle.std.specs.Int.Signed.{mag}
-use Rattle.std.specs.List.{join_with_byte}
-use Rattle.scope_rules.specs.Names.{text_of}
-use Rattle.scope_rules.specs.Ends.{EndValue}
-use Rattle.scope_rules.specs.declared.types.values.Value.{Value}
-use Rattle.scope_rules.specs.declared.types.values.Value.TheVariants.{Num, Text}
-use Rattle.scope_rules.specs.declared.types.joiners.Policy.{Policy}
-use Rattle.scope_rules.specs.declared.types.joiners.Policy.TheVariants.{All, Any, AwaitAll, AwaitOk, Until}
-use Rattle.scope_rules.specs.declared.types.joiners.Rule.{Rule}
-use Rattle.scope_rules.specs.declared.types.joiners.Rule.TheVariants.{FailuresAtLeast, SuccessesAtLeast, SumAtLeast}
-use Rattle.scope_rules.specs.declared.types.events.Options.{Options}
-use Rattle.scope_rules.specs.declared.types.events.Expiry.{Expiry}
+use Rattle.std.specs.Prelude.{[], ℕ, ◌++◌, ◌<◌, ◌^◌, ◌∷◌, ◌≡◌, Bool, Err, List, None, Ok, Option, Some, codes, false, true}
+use Rattle.scope_rules.specs.declared.types.joiners.Policy.TheVariants.{All}
+use Rattle.script_words.specs.Terms.{Any, AwaitAll, AwaitOk, Command, EndValue, Expiry, FailuresAtLeast, Num, Options, Policy, Rule, SuccessesAtLeast, SumAtLeast, Text, Until, Value, decimal, join_with_byte, mag, signed_decimal}
+use Rattle.script_words.specs.Terms.{text_of}
+use Rattle.script_words.specs.Lines.{fields_said, line_said}
 use Rattle.scope_rules.specs.declared.types.events.Expiry.TheVariants as expiry
-use Rattle.script_words.specs.declared.commands.Command.{Command}
 use Rattle.scope_rules.specs.declared.types.events.Event.TheVariants as event
 use Rattle.script_words.specs.declared.commands.Query.TheVariants as query
 use Rattle.script_words.specs.declared.commands.Command.TheVariants as command
 use Rattle.script_words.specs.declared.commands.Line.TheVariants as line
-use Rattle.script_words.specs.Lines.{fields_said, line_said}
 
 abbrev pub value_word : Value → List ℕ
 value_word (Num number) = signed_decimal number

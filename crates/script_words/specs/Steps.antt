@@ -1,5 +1,5 @@
 -- Steps of which each may fail.
-use Rattle.std.specs.Prelude.{Option, option_and_then}
+use Rattle.script_words.specs.Terms.{Option, option_and_then}
 
 infixl 10 ◌>>=◌
 abbrev pub ◌>>=◌ : {A B : Type 0} → Option A → (A → Option B) → Option B

@@ -1,10 +1,6 @@
 -- Names and values as words.
-use Rattle.std.specs.Prelude.{◌≡◌, ℕ, Bool, true, false, refl, List, length, Option, Some, None, option_map}
-use Rattle.std.specs.Option.{option_or}
-use Rattle.scope_rules.specs.NameText.{filled_up, is_stored}
-use Rattle.scope_rules.specs.declared.types.names.Name.{Name}
-use Rattle.scope_rules.specs.declared.types.values.Value.{Value}
-use Rattle.scope_rules.specs.declared.types.values.Value.TheVariants.{Num, Text}
+use Rattle.std.specs.Prelude.{ℕ, ◌≡◌, Bool, List, None, Option, Some, false, length, option_map, refl, true}
+use Rattle.script_words.specs.Terms.{Name, Num, Text, Value, filled_up, is_stored, option_or}
 use Rattle.script_words.specs.Numbers.{integer_said}
 
 -- the name with this text, which fills up to one

@@ -1,7 +1,6 @@
 -- A line that is written in place.
 use Rattle.std.specs.Prelude.{◌≡◌, Option, option_map}
-use Rattle.script_words.specs.declared.commands.Command.{Command}
-use Rattle.script_words.specs.declared.commands.Line.{Line}
+use Rattle.script_words.specs.Terms.{Command, Line}
 use Rattle.script_words.specs.declared.commands.Line.TheVariants as line
 
 -- the line is the command that is said, or it is told that none is

@@ -1,6 +1,5 @@
-ghost use Rattle.std.specs.Prelude.{◌≡◌, ◌≤◌, length, option_map, option_copied};
-ghost use Rattle.std.specs.List.{position_or_len};
-ghost use Rattle.script_words.specs.Fields.{is_space, fields, first_and_rest, just_one, just_two, just_three, without_spaces};
+ghost use Rattle.std.specs.Prelude.{◌≡◌, ◌≤◌, length, option_copied, option_map};
+ghost use Rattle.script_words.specs.{fields, first_and_rest, is_space, just_one, just_three, just_two, position_or_len, without_spaces};
 
 /// The first field of the text, and the text after it; `None` if the text has no field.
 #[tactic(auto, using(crate::proofs::FieldSteps::next_none, crate::proofs::FieldSteps::next_some))]

@@ -1,7 +1,6 @@
 ghost use Rattle.std.specs.Prelude.{◌≡◌, option_map};
-ghost use Rattle.script_words.specs.Fields.{fields};
-ghost use Rattle.script_words.specs.Forms.{number_alone, two_numbers, number_and_word, fork_said, ok_said, fail_said, new_deadline_said, move_said, tick_said, bind_said, get_said, one_number_said, two_numbers_said, form_said};
-ghost use Rattle.script_words.specs.Written.{Writes};
+ghost use Rattle.script_words.specs.{Writes, bind_said, fail_said, fields, fork_said, form_said, get_said, move_said, new_deadline_said, number_alone, number_and_word, ok_said, one_number_said, tick_said, two_numbers};
+ghost use Rattle.script_words.specs.{two_numbers_said};
 
 use crate::commands::{Command, Line, Query};
 use crate::fields::{just_one, just_two, next_field};

@@ -1,5 +1,5 @@
 ghost use Rattle.std.specs.Prelude.{◌≡◌, option_copied};
-ghost use Rattle.script_words.specs.Joiners.{after, failures_said, successes_said, sum_said, rule_said, policy_said};
+ghost use Rattle.script_words.specs.{after, failures_said, policy_said, rule_said, successes_said, sum_said};
 
 use crate::numbers::{integer, small};
 use scope_rules::{Policy, Rule};

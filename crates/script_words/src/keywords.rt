@@ -1,5 +1,5 @@
 ghost use Rattle.std.specs.Prelude.{◌≡◌, length};
-ghost use Rattle.script_words.specs.Keywords.{keyword_beside, keyword_said};
+ghost use Rattle.script_words.specs.{keyword_beside, keyword_said};
 
 /// The first word of a form.
 #[derive(Clone, Copy)]

@@ -1,7 +1,6 @@
 //! Laws of the words that lines are made of. Each function does nothing: its contract is the law.
 
-ghost use Rattle.script_words.specs.NumberLaws.{PrintedNumberIsRead, ReadNumberIsPrinted, PrintedIntegerIsRead, ReadIntegerIsPrinted};
-ghost use Rattle.script_words.specs.Spelling.{LineSaysTheCommand, WordsSayTheCommand};
+ghost use Rattle.script_words.specs.{LineSaysTheCommand, PrintedIntegerIsRead, PrintedNumberIsRead, ReadIntegerIsPrinted, ReadNumberIsPrinted, WordsSayTheCommand};
 
 /// The words that are read as a number are just what is printed of it, for numbers within the limit.
 pub fn numbers_are_read_as_printed()

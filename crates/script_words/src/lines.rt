@@ -1,7 +1,5 @@
 ghost use Rattle.std.specs.Prelude.{◌≡◌};
-ghost use Rattle.script_words.specs.Fields.{fields};
-ghost use Rattle.script_words.specs.Lines.{command_said, fields_said, line_said};
-ghost use Rattle.script_words.specs.Written.{Writes};
+ghost use Rattle.script_words.specs.{Writes, command_said, fields, fields_said, line_said};
 
 use crate::commands::Line;
 use crate::fields::next_field;

@@ -1,6 +1,6 @@
 //! Which name is meant by one that differs from it by an edit.
-ghost use Rattle.std.specs.Prelude.{◌≡◌, ◌∷◌};
-ghost use Rattle.script_words.specs.Near.{is_near, is_single, one_edit, swapped};
+ghost use Rattle.std.specs.Prelude.{◌∷◌, ◌≡◌};
+ghost use Rattle.script_words.specs.{is_near, is_single, one_edit, swapped};
 
 /// Whether one edit makes the other of the name: a letter is another, is missing, is one too many, or two neighbours
 /// are swapped.

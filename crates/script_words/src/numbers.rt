@@ -1,9 +1,6 @@
-ghost use Rattle.std.specs.Prelude.{◌≡◌, ◌≤◌, ◌^◌, true, length, option_map, IfSome, IsNone};
-ghost use Rattle.std.specs.Char.{is_ascii_digit};
-ghost use Rattle.std.specs.List.{list_all, position_or_len};
-ghost use Rattle.std.specs.Str.Parse.{digits_value};
-ghost use Rattle.script_words.specs.Fields.{fields, is_space};
-ghost use Rattle.script_words.specs.Numbers.{has_no_needless_zero, number_said, small_said, moment_said, negative_said, integer_said, word_ahead, number_first, small_first};
+ghost use Rattle.std.specs.Prelude.{◌^◌, ◌≡◌, ◌≤◌, IfSome, IsNone, length, option_map, true};
+ghost use Rattle.script_words.specs.{digits_value, fields, has_no_needless_zero, integer_said, is_ascii_digit, is_space, list_all, moment_said, negative_said, number_first, number_said, position_or_len, small_first, small_said};
+ghost use Rattle.script_words.specs.{word_ahead};
 
 use crate::fields::without_spaces;
 

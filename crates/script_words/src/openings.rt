@@ -1,7 +1,5 @@
 ghost use Rattle.std.specs.Prelude.{◌≡◌, codes};
-ghost use Rattle.script_words.specs.Fields.{fields};
-ghost use Rattle.script_words.specs.Openings.{policy_next, deadline_said, deadline_next, flag_next, expiry_of, opened, open_said};
-ghost use Rattle.script_words.specs.Written.{Writes};
+ghost use Rattle.script_words.specs.{Writes, deadline_next, deadline_said, expiry_of, fields, flag_next, open_said, opened, policy_next};
 
 use crate::commands::Line;
 use crate::fields::next_field;

@@ -1,6 +1,5 @@
 //! How the parts of a line are shown.
-ghost use Rattle.std.specs.Prelude.{Some};
-ghost use Rattle.script_words.specs.ReplyText.{counts_line};
+ghost use Rattle.script_words.specs.{Some, counts_line};
 
 use scope_rules::Counts;
 use std::fmt;

@@ -1,7 +1,6 @@
 //! The line of a reply.
-ghost use Rattle.std.specs.Prelude.{◌≡◌, ◌++◌, ◌∷◌, ◌+◌, ◌≤◌, [], true, false, Some, OnOk, OnErr, length, vec_len, vec_capacity};
-ghost use Rattle.std.specs.Fmt.{decimal};
-ghost use Rattle.script_words.specs.ReplyText.{counts_line, reply_text};
+ghost use Rattle.std.specs.Prelude.{[], ◌++◌, ◌+◌, ◌∷◌, ◌≡◌, ◌≤◌, OnErr, OnOk, Some, false, length, true, vec_capacity, vec_len};
+ghost use Rattle.script_words.specs.{counts_line, decimal, reply_text};
 
 use crate::parts::ShownCounts;
 use crate::reply::Reply;

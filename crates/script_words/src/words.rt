@@ -1,5 +1,5 @@
 ghost use Rattle.std.specs.Prelude.{◌≡◌};
-ghost use Rattle.script_words.specs.Words.{name_said, value_said};
+ghost use Rattle.script_words.specs.{name_said, value_said};
 
 use crate::numbers::integer;
 use scope_rules::{Name, Value};

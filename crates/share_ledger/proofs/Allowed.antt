@@ -1,19 +1,9 @@
 -- What the table asks of each move.
-use Rattle.std.proofs.Common.{◌≡◌, ℕ, Some, List, [], ◌∷◌, ◌++◌, refl, ap, ◌∙◌}
+use Rattle.std.proofs.Common.{[], ℕ, ◌++◌, ◌∙◌, ◌∷◌, ◌≡◌, List, Some, ap, refl}
+use Rattle.share_ledger.specs.{Allows, Holder, Holding, Joins, Keeping, Ledger, LedgerView, Limited, Limits, MayAppend, Me, Opening, RealmStep, Said, Share, Spent, Splits, State, Stepped, TellsAppended, TellsLimited, TellsLooked}
+use Rattle.share_ledger.specs.{TokenOf, given_out, handed_in, keeping, keeps, left_in, newly_named, with_named}
+use Rattle.share_ledger.proofs.Keeps.{append_keeps, append_tells, give_out_keeps, hand_in_keeps, limit_keeps, look_keeps, look_tells}
 use mathlib.Core.Option as m
-use Rattle.atomic_table.specs.Table.{State, Me, Allows, Splits, Joins, keeps}
-use Rattle.scope_rules.specs.declared.types.capacity.Limits.{Limits}
-use Rattle.share_ledger.specs.declared.steps.RealmStep.{RealmStep}
-use Rattle.share_ledger.specs.declared.steps.Holder.{Holder}
-use Rattle.share_ledger.specs.declared.steps.Holder.TheVariants.{TokenOf}
-use Rattle.share_ledger.specs.declared.views.Share.{Share}
-use Rattle.share_ledger.specs.declared.views.Said.{Said}
-use Rattle.share_ledger.specs.declared.views.Said.TheVariants.{Limited, Stepped}
-use Rattle.share_ledger.specs.declared.views.LedgerView.{LedgerView}
-use Rattle.share_ledger.specs.declared.views.LedgerView.TheVariants.{Opening, Keeping, Holding, Spent}
-use Rattle.share_ledger.specs.Views.{keeping, newly_named, with_named, TellsLimited, TellsAppended, TellsLooked, handed_in, left_in, given_out}
-use Rattle.share_ledger.specs.Rule.{Ledger, MayAppend}
-use Rattle.share_ledger.proofs.Keeps.{limit_keeps, look_keeps, look_tells, hand_in_keeps, give_out_keeps, append_keeps, append_tells}
 
 -- the rule, as the table reads it
 abbrev pub holds : State Said LedgerView → Type 0

@@ -1,10 +1,7 @@
 -- What is asked for with any token is of no task.
-use Rattle.std.proofs.Common.{◌≡◌, ℕ, false, None, refl}
-use Rattle.scope_rules.specs.History.{is_fork}
-use Rattle.scope_rules.specs.Tasks.{rejects, starts, finishes, ending_of}
-use Rattle.share_ledger.specs.declared.steps.Ask.{Ask}
+use Rattle.std.proofs.Common.{ℕ, ◌≡◌, None, false, refl}
+use Rattle.share_ledger.specs.{Ask, asked, ending_of, finishes, is_fork, rejects, starts}
 use Rattle.share_ledger.specs.declared.steps.Ask.TheVariants as ask
-use Rattle.share_ledger.specs.Steps.{asked}
 
 pub asks_no_fork : (q : Ask) → is_fork (asked q) ≡ false
 asks_no_fork (ask.Cancel scope) = refl

@@ -1,16 +1,8 @@
 -- The keeper's seat between two moves, in the words of contracts.
-use Rattle.std.proofs.Common.{◌≡◌, ℕ, ◌<◌, Some, List, [], ◌∷◌, refl, ap, ◌∙◌, arith}
-use Rattle.atomic_table.specs.Table.{Me, Allows, Joins}
-use Rattle.scope_rules.specs.declared.types.capacity.Limits.{Limits}
-use Rattle.share_ledger.specs.declared.steps.RealmStep.{RealmStep}
-use Rattle.share_ledger.specs.declared.steps.Holder.{Holder}
-use Rattle.share_ledger.specs.declared.views.Share.{Share}
-use Rattle.share_ledger.specs.declared.views.Said.{Said}
-use Rattle.share_ledger.specs.declared.views.LedgerView.{LedgerView}
-use Rattle.share_ledger.specs.declared.views.LedgerView.TheVariants.{Keeping, Holding, Spent}
-use Rattle.share_ledger.specs.Views.{keeping, holding, handed_in, TellsLooked}
-use Rattle.share_ledger.specs.Desks.{limits_of, steps_of, hand_of, holder_of, view_of, IsReady, IsShareOf}
-use Rattle.share_ledger.proofs.Allowed.{holds, hand_in_allowed, look_allowed}
+use Rattle.std.proofs.Common.{[], ℕ, ◌<◌, ◌∙◌, ◌∷◌, ◌≡◌, List, Some, ap, arith, refl}
+use Rattle.share_ledger.specs.{Allows, Holder, Holding, IsReady, IsShareOf, Joins, Keeping, LedgerView, Limits, Me, RealmStep, Said, Share, Spent, TellsLooked, hand_of, handed_in, holder_of, holding, keeping, limits_of, steps_of}
+use Rattle.share_ledger.specs.{view_of}
+use Rattle.share_ledger.proofs.Allowed.{hand_in_allowed, holds, look_allowed}
 
 pub a_word : (words : ℕ) → words ≡ 1 → 0 < words
 a_word words is = omega arith

@@ -1,37 +1,13 @@
 -- Of a task that was forked since the last retirement, the list says how it ended and what its fork
 -- gave, as the history does.
-use Rattle.std.proofs.Common.{◌≡◌, ℕ, ◌+◌, ◌≤◌, ◌<◌, ◌==◌, Bool, true, false, cond, Option, Some, None, List, [], ◌∷◌, length, refl, sym, ap, ◌∙◌, arith, subst}
-use Rattle.std.proofs.lemmas.Bool.{both_ways}
-use Rattle.std.specs.Option.{option_or}
-use Rattle.scope_rules.specs.declared.types.capacity.Limits.{Limits}
-use Rattle.scope_rules.specs.declared.types.events.Event.{Event}
-use Rattle.scope_rules.specs.declared.types.events.Event.TheVariants.{Fork, Finish}
-use Rattle.scope_rules.specs.declared.types.records.Forking.{Forking}
-use Rattle.scope_rules.specs.declared.types.records.Ending.{Ending}
-use Rattle.scope_rules.specs.Ends.{EndValue}
-use Rattle.scope_rules.specs.Origin.{Origin}
-use Rattle.scope_rules.specs.History.{History, followed, tasks, forking, is_fork}
-use Rattle.scope_rules.specs.Cancels.{cancelled_before}
-use Rattle.scope_rules.specs.Tasks.{finishes, finished, ending_of, ending}
-use Rattle.scope_rules.specs.Legal.{Legal}
-use Rattle.scope_rules.proofs.PassedRows.{fork_passed}
-use Rattle.scope_rules.proofs.Growing.{forking_stays}
-use Rattle.scope_rules.proofs.Earlier.{forking_within}
-use Rattle.scope_rules.proofs.Nesting.{IsOpened, forked_opened}
-use Rattle.scope_rules.proofs.ChainsGrow.{cancelled_before_stays, cancelled_by_now}
-use Rattle.scope_rules.proofs.Forkings.{forked_after}
-use Rattle.scope_rules.proofs.Prefixes.{option_or-none, option_or-assoc}
-use Rattle.scope_rules.proofs.StageSteps.{next_forking}
-use Rattle.scope_rules.proofs.StateSteps.{ending_grows, no_ending}
-use Rattle.share_ledger.specs.declared.steps.RealmStep.{RealmStep}
-use Rattle.share_ledger.specs.declared.steps.RealmStep.TheVariants.{Happened, Asked, Retirement}
-use Rattle.share_ledger.specs.Steps.{asked, fresh, advance, advanced, history_of, Passes, LegalFrom, IsLegal}
-use Rattle.share_ledger.specs.Tickets.{is_event, grant_of, granted, grant_in, end_of, end_in}
-use Rattle.share_ledger.specs.StepLaws.{end_shown, grant_shown, TellsHistory}
-use Rattle.share_ledger.proofs.Asks.{asks_no_fork, asks_no_end}
-use Rattle.share_ledger.proofs.Histories.{legal_empty, legal_advance, base_advanced}
-use Rattle.share_ledger.proofs.GrantWalks.{to_fork}
-use Rattle.share_ledger.proofs.Ties.{base_after, none_before, finished_found, rejected_told, started_told}
+use Rattle.std.proofs.Common.{[], ℕ, ◌+◌, ◌<◌, ◌==◌, ◌∙◌, ◌∷◌, ◌≡◌, ◌≤◌, Bool, List, None, Option, Some, ap, arith, cond, false, length, refl, subst, sym, true}
+use Rattle.share_ledger.specs.{Asked, EndValue, Ending, Event, Finish, Fork, Forking, Happened, History, IsLegal, Legal, LegalFrom, Limits, Origin, Passes, RealmStep, Retirement, TellsHistory, advance, advanced, asked}
+use Rattle.share_ledger.specs.{cancelled_before, end_in, end_of, end_shown, ending, ending_of, finished, finishes, followed, forking, fresh, grant_in, grant_of, grant_shown, granted, history_of, is_event, is_fork, option_or}
+use Rattle.share_ledger.specs.{tasks}
+use Rattle.share_ledger.proofs.Words.{IsOpened, both_ways, cancelled_before_stays, cancelled_by_now, ending_grows, fork_passed, forked_after, forked_opened, forking_stays, forking_within, next_forking, no_ending, option_or-assoc}
+use Rattle.share_ledger.proofs.Words.{option_or-none}
+use Rattle.share_ledger.proofs.{Asks.asks_no_end, Asks.asks_no_fork, GrantWalks.to_fork, Histories.base_advanced, Histories.legal_advance, Histories.legal_empty, Ties.base_after, Ties.finished_found, Ties.none_before}
+use Rattle.share_ledger.proofs.{Ties.rejected_told, Ties.started_told}
 
 shown_or : (o p : Option Ending) → end_shown (option_or o p) ≡ option_or (end_shown o) (end_shown p)
 shown_or None p = refl

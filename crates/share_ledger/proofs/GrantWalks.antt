@@ -1,12 +1,7 @@
 -- The walk over a list of steps to its n-th fork.
-use Rattle.std.proofs.Common.{◌≡◌, ℕ, ◌+◌, ◌-◌, ◌≤◌, ◌<◌, ◌==◌, true, Some, List, [], ◌∷◌, refl, arith, inl, inr}
-use Rattle.std.proofs.lemmas.Bool.{cases_Bool, eqb-true, eqb-false}
-use Rattle.scope_rules.specs.declared.types.capacity.Limits.{Limits}
-use Rattle.scope_rules.specs.History.{History, tasks, is_fork}
-use Rattle.scope_rules.specs.Legal.{Legal}
-use Rattle.share_ledger.specs.declared.steps.RealmStep.{RealmStep}
-use Rattle.share_ledger.specs.Steps.{advance, Passes, LegalFrom}
-use Rattle.share_ledger.specs.Tickets.{Grant, is_event, grant_of, granted}
+use Rattle.std.proofs.Common.{[], ℕ, ◌+◌, ◌-◌, ◌<◌, ◌==◌, ◌∷◌, ◌≡◌, ◌≤◌, List, Some, arith, inl, inr, refl, true}
+use Rattle.share_ledger.specs.{Grant, History, Legal, LegalFrom, Limits, Passes, RealmStep, advance, grant_of, granted, is_event, is_fork, tasks}
+use Rattle.share_ledger.proofs.Words.{cases_Bool, eqb-false, eqb-true}
 use Rattle.share_ledger.proofs.Histories.{legal_advance, tasks_advance}
 
 -- the n-th fork of the steps is counted from 1

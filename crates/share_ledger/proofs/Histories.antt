@@ -1,23 +1,8 @@
 -- How a history goes on by steps.
-use Rattle.std.proofs.Common.{◌≡◌, ◌+◌, ◌≤◌, false, cond, Option, None, Ok, is_some, List, [], ◌∷◌, ◌++◌, refl, arith}
-use Rattle.scope_rules.specs.declared.types.capacity.Limits.{Limits}
-use Rattle.scope_rules.specs.Origin.{Origin}
-use Rattle.scope_rules.specs.History.{History, tasks, is_fork}
-use Rattle.scope_rules.specs.Scopes.{innermost}
-use Rattle.scope_rules.specs.Table.{retire_check}
-use Rattle.scope_rules.specs.Replies.{base_of}
-use Rattle.scope_rules.specs.Legal.{Legal}
-use Rattle.scope_rules.proofs.Accepted.{checks_at, not_refused}
-use Rattle.scope_rules.proofs.Completions.{count_by-cons}
-use Rattle.scope_rules.proofs.Owing.{count_push}
-use Rattle.scope_rules.proofs.Pushing.{legal_push}
-use Rattle.share_ledger.specs.declared.steps.RealmStep.{RealmStep}
-use Rattle.share_ledger.specs.declared.steps.RealmStep.TheVariants.{Happened, Asked, Retirement}
-use Rattle.share_ledger.specs.declared.steps.Holder.{Holder}
-use Rattle.share_ledger.specs.Holders.{Agrees, Adds}
-use Rattle.share_ledger.specs.Steps.{asked, fresh, advance, advanced, history_of, Passes, LegalFrom, IsLegal}
-use Rattle.share_ledger.specs.Tickets.{is_event, forks}
-use Rattle.share_ledger.specs.StepLaws.{GoesOn}
+use Rattle.std.proofs.Common.{[], ◌++◌, ◌+◌, ◌∷◌, ◌≡◌, ◌≤◌, List, None, Ok, Option, arith, cond, false, is_some, refl}
+use Rattle.share_ledger.specs.{Adds, Agrees, Asked, GoesOn, Happened, History, Holder, IsLegal, Legal, LegalFrom, Limits, Origin, Passes, RealmStep, Retirement, advance, advanced, asked, base_of, forks, fresh, history_of}
+use Rattle.share_ledger.specs.{innermost, is_event, is_fork, retire_check, tasks}
+use Rattle.share_ledger.proofs.Words.{checks_at, count_by-cons, count_push, legal_push, not_refused}
 
 pub advanced-append : (h : History) (xs ys : List RealmStep) → advanced h (xs ++ ys) ≡ advanced (advanced h xs) ys
 advanced-append h [] ys = refl

@@ -1,23 +1,10 @@
 -- Each move keeps the rule.
-use Rattle.std.proofs.Common.{◌≡◌, ◌≢◌, ℕ, zero, suc, true, false, Option, Some, None, List, [], ◌∷◌, ◌++◌, length, set, refl, sym, ap, ◌∙◌, subst, ◌⊎◌, inl, inr}
-use Rattle.std.proofs.lemmas.Bool.{or_cases, or_from, both_ways, false_from_ne_true}
-use Rattle.std.specs.List.{list_any}
-use Rattle.std.proofs.Math.ListN.{length-set}
-use mathlib.Core.Option.{some, some-injective, some-ne-none}
-use lib.ListN.{get_elem?}
-use Rattle.scope_rules.proofs.Numbers.{list_any-push}
-use Rattle.atomic_table.proofs.Lists.{at_set, set_else}
-use Rattle.scope_rules.specs.declared.types.capacity.Limits.{Limits}
-use Rattle.share_ledger.specs.declared.steps.RealmStep.{RealmStep}
-use Rattle.share_ledger.specs.declared.steps.Holder.{Holder}
-use Rattle.share_ledger.specs.declared.steps.Holder.TheVariants.{TokenOf}
-use Rattle.share_ledger.specs.Holders.{is_own, Agrees}
-use Rattle.share_ledger.specs.declared.views.Share.{Share}
-use Rattle.share_ledger.specs.declared.views.LedgerView.{LedgerView}
-use Rattle.share_ledger.specs.declared.views.LedgerView.TheVariants.{Opening, Keeping, Holding, Spent}
-use Rattle.share_ledger.specs.Views.{keeping, holding, newly_named, with_named, IsFresh}
-use Rattle.share_ledger.specs.Rule.{same_holder, is_named, IsHeld, InHand, IsKept, IsOpening, Fits, Ledger, MayAppend}
-use Rattle.share_ledger.proofs.Seats.{same_one, moved, moved_here, moved_other, moved_still, hand_seat, hand_named, hand_stays, hand_without, absent_elsewhere, absent_unnamed, named_still, named_newly, agrees_whole, agrees_more, at_push}
+use Rattle.std.proofs.Common.{[], ℕ, ◌++◌, ◌∙◌, ◌∷◌, ◌≡◌, ◌≢◌, ◌⊎◌, List, None, Option, Some, ap, false, inl, inr, length, refl, set, subst, suc, sym, true, zero}
+use Rattle.share_ledger.specs.{Agrees, Holder, Holding, InHand, IsFresh, IsHeld, IsKept, IsOpening, Keeping, Ledger, LedgerView, Limits, MayAppend, Opening, RealmStep, Rule.Fits, Share, Spent, TokenOf, holding, is_named, is_own}
+use Rattle.share_ledger.specs.{keeping, list_any, newly_named, same_holder, with_named}
+use Rattle.share_ledger.proofs.Words.{at_set, both_ways, false_from_ne_true, get_elem?, length-set, list_any-push, or_cases, or_from, set_else, some, some-injective, some-ne-none}
+use Rattle.share_ledger.proofs.Seats.{absent_elsewhere, absent_unnamed, agrees_more, agrees_whole, at_push, hand_named, hand_seat, hand_stays, hand_without, moved, moved_here, moved_other, moved_still, named_newly, named_still}
+use Rattle.share_ledger.proofs.Seats.{same_one}
 
 -- a view that fits fits at the number that its seat has
 fits_at : (place : ℕ) (limits : Option Limits) (whole : List RealmStep) (seat : Holder → ℕ) (i j : ℕ) (v w : LedgerView) → i ≡ j → v ≡ w → Fits place limits whole seat i v → Fits place limits whole seat j w

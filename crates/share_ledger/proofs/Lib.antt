@@ -12,3 +12,4 @@ pub mod Waits
 pub mod Told
 pub mod Ties
 pub mod Ends
+mod Words

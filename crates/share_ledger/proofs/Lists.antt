@@ -1,7 +1,7 @@
 -- Searches in lists that one test narrows, and lists that go on.
-use Rattle.std.proofs.Common.{◌≡◌, Bool, true, false, List, [], ◌∷◌, refl}
-use Rattle.std.proofs.lemmas.Bool.{or_parts, or_from, false_from_ne_true, both_ways}
-use Rattle.std.specs.List.{list_any}
+use Rattle.std.proofs.Common.{[], ◌∷◌, ◌≡◌, Bool, List, false, refl, true}
+use Rattle.share_ledger.specs.{list_any}
+use Rattle.share_ledger.proofs.Words.{both_ways, false_from_ne_true, or_from, or_parts}
 
 -- if the wider test finds nothing, the narrower finds nothing
 pub none_narrower : {A : Type 0} (p q : A → Bool) (xs : List A) → ((x : A) → p x ≡ true → q x ≡ true) → list_any q xs ≡ false → list_any p xs ≡ false

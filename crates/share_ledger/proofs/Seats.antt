@@ -1,23 +1,8 @@
 -- Holders, if they sit, and the keeper's hand.
-use Rattle.std.proofs.Common.{◌≡◌, ℕ, zero, suc, ◌+◌, ◌==◌, ◌||◌, Bool, true, false, cond, nat_le, Some, List, [], ◌∷◌, ◌++◌, length, refl, sym, ap, ◌∙◌, arith, subst, ◌⊎◌, inl, inr}
-use Rattle.std.proofs.lemmas.Bool.{eq-eqb, eqb-true, or_cases, or_left, or_right, or_from, both_ways, false_from_ne_true, and_parts, and_from, leb-true, le-leb, cond-true, cond-false}
-use Rattle.std.proofs.lemmas.List.{append-nil, append_assoc}
-use Rattle.std.proofs.lemmas.List.Sums.{sum_by-append}
-use Rattle.std.specs.List.{list_any}
-use mathlib.Core.Option.{some, some-injective, some-ne-none}
-use lib.ListN.{get_elem?}
-use Rattle.scope_rules.specs.declared.types.events.Event.TheVariants.{Fork, Start}
-use Rattle.scope_rules.specs.History.{is_fork}
-use Rattle.scope_rules.specs.Tasks.{starts}
-use Rattle.scope_rules.proofs.Numbers.{list_any-push}
-use Rattle.share_ledger.specs.declared.steps.RealmStep.{RealmStep}
-use Rattle.share_ledger.specs.declared.steps.RealmStep.TheVariants.{Happened}
-use Rattle.share_ledger.specs.declared.steps.Holder.{Holder}
-use Rattle.share_ledger.specs.declared.steps.Holder.TheVariants.{TokenOf, TicketOf}
-use Rattle.share_ledger.specs.Holders.{is_own, Agrees}
-use Rattle.share_ledger.specs.Tickets.{is_event, forks, started_in}
-use Rattle.share_ledger.specs.Views.{newly_named}
-use Rattle.share_ledger.specs.Rule.{same_holder, is_named, Absent, InHand}
+use Rattle.std.proofs.Common.{[], ℕ, ◌++◌, ◌+◌, ◌==◌, ◌||◌, ◌∙◌, ◌∷◌, ◌≡◌, ◌⊎◌, Bool, List, Some, ap, arith, cond, false, inl, inr, length, nat_le, refl, subst, suc, sym, true, zero}
+use Rattle.share_ledger.specs.{Absent, Agrees, Fork, Happened, Holder, InHand, RealmStep, Start, TicketOf, TokenOf, forks, is_event, is_fork, is_named, is_own, list_any, newly_named, same_holder, started_in, starts}
+use Rattle.share_ledger.proofs.Words.{and_from, and_parts, append-nil, append_assoc, both_ways, cond-false, cond-true, eq-eqb, eqb-true, false_from_ne_true, get_elem?, le-leb, leb-true, list_any-push, or_cases, or_from, or_left}
+use Rattle.share_ledger.proofs.Words.{or_right, some, some-injective, some-ne-none, sum_by-append}
 
 pub same_itself : (who : Holder) → same_holder who who ≡ true
 same_itself (TokenOf a) = eq-eqb a a refl

@@ -1,9 +1,7 @@
 -- Sums of what tickets say of themselves.
-use Rattle.std.proofs.Common.{ℕ, ◌≤◌, Bool, true, false, List, length, take, arith}
-use Rattle.std.proofs.lemmas.List.{length-take}
-use Rattle.std.proofs.lemmas.List.Sums.{count_by-le-length}
-use Rattle.std.specs.List.{sum_by}
-use Rattle.share_ledger.specs.Values.{TicketValue, one_if}
+use Rattle.std.proofs.Common.{ℕ, ◌≤◌, Bool, List, arith, false, length, take, true}
+use Rattle.share_ledger.specs.{TicketValue, one_if, sum_by}
+use Rattle.share_ledger.proofs.Words.{count_by-le-length, length-take}
 
 -- a sum of ones and zeros is no more than their number
 pub sum_bounded : (f : TicketValue → Bool) (xs : List TicketValue) (i : ℕ) → i ≤ length xs → sum_by (λ t. one_if (f t)) (take i xs) ≤ i

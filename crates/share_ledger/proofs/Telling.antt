@@ -1,33 +1,10 @@
 -- What a ticket keeps, once its share was raised to the keeper's list.
-use Rattle.std.proofs.Common.{◌≡◌, ℕ, ◌+◌, ◌==◌, ◌||◌, ◌&&◌, Bool, true, false, not, cond, Option, Some, None, is_some, List, [], ◌∷◌, ◌++◌, refl, sym, ap, ◌∙◌, arith, subst}
-use Rattle.std.proofs.lemmas.Bool.{eq-eqb, eqb-true, or_from, or_left, or_right, ne_eqb, cond-true, cond-false}
-use Rattle.std.proofs.Math.Bool.{or-false}
-use Rattle.std.specs.Option.{option_or}
-use Rattle.std.specs.List.{list_any}
-use Rattle.scope_rules.specs.declared.types.values.Label.{Label}
-use Rattle.scope_rules.specs.declared.types.events.Event.TheVariants.{Fork, Reject, Start, Finish}
-use Rattle.scope_rules.specs.Ends.{EndValue}
-use Rattle.scope_rules.specs.History.{tasks}
-use Rattle.scope_rules.specs.Cancels.{is_cancelled}
-use Rattle.scope_rules.specs.Tasks.{rejects, starts}
-use Rattle.scope_rules.proofs.Numbers.{list_any-push}
-use Rattle.scope_rules.proofs.Prefixes.{option_or-none}
-use Rattle.share_ledger.specs.declared.steps.RealmStep.{RealmStep}
-use Rattle.share_ledger.specs.declared.steps.RealmStep.TheVariants.{Happened}
-use Rattle.share_ledger.specs.declared.steps.Holder.{Holder}
-use Rattle.share_ledger.specs.declared.steps.Holder.TheVariants.{TokenOf, TicketOf}
-use Rattle.share_ledger.specs.Steps.{history_of}
-use Rattle.share_ledger.specs.Holders.{is_own, Agrees}
-use Rattle.share_ledger.specs.Tickets.{Grant, is_event, forks, grant_in, rejected_in, started_in, end_of, end_in, given_in}
-use Rattle.share_ledger.specs.StepLaws.{TellsAlike}
-use Rattle.share_ledger.proofs.Histories.{tasks_forks}
-use Rattle.share_ledger.proofs.Told.{seen_tells, others_tell, grant-append, grant-fork, end_in-append}
-use Rattle.share_ledger.proofs.Waits.{grant_number}
-use Rattle.share_ledger.specs.declared.views.LedgerView.{LedgerView}
-use Rattle.share_ledger.specs.Views.{holding, newly_named, IsFresh}
-use Rattle.share_ledger.specs.Rule.{same_holder, is_named, MayAppend}
-use Rattle.share_ledger.specs.Desks.{limits_of, steps_of, holder_of, view_of, IsShareOf, IsKnown}
-use Rattle.share_ledger.specs.Values.{IsTicket}
+use Rattle.std.proofs.Common.{[], ℕ, ◌&&◌, ◌++◌, ◌+◌, ◌==◌, ◌||◌, ◌∙◌, ◌∷◌, ◌≡◌, Bool, List, None, Option, Some, ap, arith, cond, false, is_some, not, refl, subst, sym, true}
+use Rattle.share_ledger.specs.{Agrees, EndValue, Finish, Fork, Grant, Happened, Holder, IsFresh, IsKnown, IsShareOf, IsTicket, Label, LedgerView, MayAppend, RealmStep, Reject, Start, TellsAlike, TicketOf, TokenOf, end_in, end_of}
+use Rattle.share_ledger.specs.{forks, given_in, grant_in, history_of, holder_of, holding, is_cancelled, is_event, is_named, is_own, limits_of, list_any, newly_named, option_or, rejected_in, rejects, same_holder, started_in}
+use Rattle.share_ledger.specs.{starts, steps_of, tasks, view_of}
+use Rattle.share_ledger.proofs.Words.{cond-false, cond-true, eq-eqb, eqb-true, list_any-push, ne_eqb, option_or-none, or-false, or_from, or_left, or_right}
+use Rattle.share_ledger.proofs.{Histories.tasks_forks, Told.end_in-append, Told.grant-append, Told.grant-fork, Told.others_tell, Told.seen_tells, Waits.grant_number}
 
 -- what a list says of a task that was given a thread
 pub record Says (k : ℕ) (g : Grant) (r s : Bool) (e : Option EndValue) (xs : List RealmStep) : Type 0 where

@@ -1,22 +1,9 @@
 -- Of a task that was forked since the last retirement, the list says what the history says.
-use Rattle.std.proofs.Common.{◌≡◌, ℕ, ◌<◌, ◌||◌, Bool, true, false, List, [], ◌∷◌, refl, sym, ap, ◌∙◌, arith}
-use Rattle.std.proofs.lemmas.Bool.{false_from_ne_true}
-use Rattle.std.proofs.Math.Bool.{or-false, or_assoc}
-use Rattle.std.specs.List.{list_any}
-use Rattle.scope_rules.specs.declared.types.capacity.Limits.{Limits}
-use Rattle.scope_rules.specs.declared.types.events.Event.{Event}
-use Rattle.scope_rules.specs.History.{History, followed, tasks}
-use Rattle.scope_rules.specs.Tasks.{rejects, rejected, starts, started, finishes, finished}
-use Rattle.scope_rules.specs.Replies.{base_of}
-use Rattle.scope_rules.specs.Legal.{Legal}
-use Rattle.scope_rules.proofs.Forkings.{IsForked, forked_after}
-use Rattle.scope_rules.proofs.Numbers.{list_any-push}
-use Rattle.scope_rules.proofs.StageSteps.{rejected_forked, started_forked, finished_forked}
-use Rattle.share_ledger.specs.declared.steps.RealmStep.{RealmStep}
-use Rattle.share_ledger.specs.declared.steps.RealmStep.TheVariants.{Happened, Asked, Retirement}
-use Rattle.share_ledger.specs.Steps.{asked, fresh, advance, advanced, history_of, LegalFrom, IsLegal}
-use Rattle.share_ledger.specs.Tickets.{is_event, rejected_in, started_in}
-use Rattle.share_ledger.proofs.Histories.{legal_empty, legal_advance, base_advanced}
+use Rattle.std.proofs.Common.{[], ℕ, ◌<◌, ◌||◌, ◌∙◌, ◌∷◌, ◌≡◌, Bool, List, ap, arith, false, refl, sym, true}
+use Rattle.share_ledger.specs.{Asked, Event, Happened, History, IsLegal, Legal, LegalFrom, Limits, RealmStep, Retirement, Words.rejected, Words.started, advance, advanced, asked, base_of, finished, finishes, followed, fresh}
+use Rattle.share_ledger.specs.{history_of, is_event, list_any, rejected_in, rejects, started_in, starts, tasks}
+use Rattle.share_ledger.proofs.Words.{IsForked, false_from_ne_true, finished_forked, forked_after, list_any-push, or-false, or_assoc, rejected_forked, started_forked}
+use Rattle.share_ledger.proofs.Histories.{base_advanced, legal_advance, legal_empty}
 
 -- a retirement leaves as many numbers before the base as were given
 pub base_after : (h : History) → (base_of h).tasks ≡ tasks h

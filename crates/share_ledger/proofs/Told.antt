@@ -1,25 +1,9 @@
 -- What a ticket's own steps say in a beginning of the list is what they say in the whole.
-use Rattle.std.proofs.Common.{◌≡◌, ℕ, ◌+◌, ◌-◌, arith, ◌==◌, ◌||◌, Bool, true, false, cond, Option, Some, None, is_some, List, [], ◌∷◌, ◌++◌, refl, sym, ap, ◌∙◌, inl, inr}
-use Rattle.std.proofs.lemmas.Bool.{both_ways, cases_Bool, eq-eqb, ne_eqb}
-use Rattle.std.proofs.lemmas.List.Folds.{list_any-append}
-use Rattle.std.proofs.Math.Bool.{or-false}
-use Rattle.std.specs.Option.{option_or}
-use Rattle.std.specs.List.{list_any}
-use Rattle.scope_rules.specs.declared.types.events.Event.TheVariants.{Reject, Start, Finish}
-use Rattle.scope_rules.specs.Ends.{EndValue}
-use Rattle.scope_rules.specs.History.{History, is_fork}
-use Rattle.scope_rules.specs.Tasks.{rejects, starts, finishes}
-use Rattle.scope_rules.proofs.Completions.{count_by-cons}
-use Rattle.scope_rules.proofs.Prefixes.{option_or-assoc, option_or-none}
-use Rattle.share_ledger.specs.declared.steps.RealmStep.{RealmStep}
-use Rattle.share_ledger.specs.declared.steps.RealmStep.TheVariants.{Happened, Asked}
-use Rattle.share_ledger.specs.declared.steps.Holder.TheVariants.{TicketOf}
-use Rattle.share_ledger.specs.Steps.{asked, fresh, advance, advanced, history_of}
-use Rattle.share_ledger.specs.Holders.{is_own, Agrees}
-use Rattle.share_ledger.specs.Tickets.{Grant, is_event, forks, grant_of, granted, grant_in, rejected_in, started_in, end_of, end_in, finished_in}
-use Rattle.share_ledger.specs.StepLaws.{TellsAlike}
-use Rattle.share_ledger.proofs.Asks.{asks_no_reject, asks_no_start, asks_no_finish}
-use Rattle.share_ledger.proofs.Lists.{none_narrower}
+use Rattle.std.proofs.Common.{[], ℕ, ◌++◌, ◌+◌, ◌-◌, ◌==◌, ◌||◌, ◌∙◌, ◌∷◌, ◌≡◌, Bool, List, None, Option, Some, ap, arith, cond, false, inl, inr, is_some, refl, sym, true}
+use Rattle.share_ledger.specs.{Agrees, Asked, EndValue, Finish, Grant, Happened, History, RealmStep, Reject, Start, TellsAlike, TicketOf, advance, advanced, asked, end_in, end_of, finished_in, finishes, forks, fresh, grant_in}
+use Rattle.share_ledger.specs.{grant_of, granted, history_of, is_event, is_fork, is_own, list_any, option_or, rejected_in, rejects, started_in, starts}
+use Rattle.share_ledger.proofs.Words.{both_ways, cases_Bool, count_by-cons, eq-eqb, list_any-append, ne_eqb, option_or-assoc, option_or-none, or-false}
+use Rattle.share_ledger.proofs.{Asks.asks_no_finish, Asks.asks_no_reject, Asks.asks_no_start, Lists.none_narrower}
 
 finish_found : (b : Bool) (end : EndValue) (o : Option EndValue) → is_some (option_or (cond b (Some end) None) o) ≡ (b || is_some o)
 finish_found true end o = refl

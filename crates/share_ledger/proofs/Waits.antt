@@ -1,32 +1,12 @@
 -- Tasks that wait or run go on so until their own steps, since no retirement passes meanwhile.
-use Rattle.std.proofs.Common.{ap, ◌≡◌, ℕ, ◌+◌, ◌≤◌, ◌<◌, Bool, true, false, not, cond, Option, Some, None, Ok, is_some, List, [], ◌∷◌, refl, sym, ◌∙◌, arith, subst, inl, inr}
-use Rattle.std.proofs.lemmas.Bool.{or_parts, and_parts, cases_Bool, both_ways, false_from_ne_true, eqb-true, not-true}
-use Rattle.std.specs.List.{list_any}
-use Rattle.scope_rules.specs.declared.types.capacity.Limits.{Limits}
-use Rattle.scope_rules.specs.declared.types.events.Event.TheVariants.{Fork, Start}
-use Rattle.scope_rules.specs.declared.types.answers.Stage.{Stage}
-use Rattle.scope_rules.specs.declared.types.answers.Stage.TheVariants.{Never, Waiting, Running}
-use Rattle.scope_rules.specs.History.{History, tasks}
-use Rattle.scope_rules.specs.Cancels.{is_cancelled}
-use Rattle.scope_rules.specs.Tasks.{stage, rejects, starts, finishes, is_waiting, is_running, is_settled}
-use Rattle.scope_rules.specs.Table.{retire_check}
-use Rattle.scope_rules.specs.Legal.{Legal}
-use Rattle.scope_rules.proofs.PassedRows.{starter_passed, finisher_passed}
-use Rattle.scope_rules.proofs.Forkings.{forked_after}
-use Rattle.scope_rules.proofs.Stages.{waiting_unsettled, running_unsettled, running_not_waiting, waiting_forked, running_stays}
-use Rattle.scope_rules.proofs.StageSteps.{stage_same, stage_started, stage_forked}
-use Rattle.scope_rules.proofs.ClosingScopes.{nothing_runs}
-use Rattle.share_ledger.specs.declared.steps.RealmStep.{RealmStep}
-use Rattle.share_ledger.specs.declared.steps.RealmStep.TheVariants.{Happened, Asked, Retirement}
-use Rattle.share_ledger.specs.Steps.{asked, fresh, advance, advanced, history_of, Passes, LegalFrom, IsLegal}
-use Rattle.share_ledger.specs.Tickets.{Grant, is_event, grant_of, granted, grant_in, rejected_in, started_in, finished_in, given_in}
-use Rattle.share_ledger.specs.StepLaws.{TellsAlike}
-use Rattle.share_ledger.specs.Holders.{Agrees}
-use Rattle.share_ledger.specs.declared.steps.Holder.TheVariants.{TicketOf}
-use Rattle.share_ledger.proofs.Asks.{asks_no_start, asks_no_finish}
-use Rattle.share_ledger.proofs.Histories.{legal_empty, legal_advance, retired_without_scopes}
-use Rattle.share_ledger.proofs.Told.{finished_is, seen_tells}
-use Rattle.share_ledger.proofs.GrantWalks.{granted_number, to_fork}
+use Rattle.std.proofs.Common.{[], ℕ, ◌+◌, ◌<◌, ◌∙◌, ◌∷◌, ◌≡◌, ◌≤◌, Bool, List, None, Ok, Option, Some, ap, arith, cond, false, inl, inr, is_some, not, refl, subst, sym, true}
+use Rattle.share_ledger.specs.{Agrees, Asked, Fork, Grant, Happened, History, IsLegal, Legal, LegalFrom, Limits, Never, Passes, RealmStep, Retirement, Running, Stage, Start, TellsAlike, TicketOf, Waiting, advance, advanced, asked}
+use Rattle.share_ledger.specs.{finished_in, finishes, fresh, given_in, grant_in, grant_of, granted, history_of, is_cancelled, is_event, is_running, is_settled, is_waiting, list_any, rejected_in, rejects, retire_check, stage}
+use Rattle.share_ledger.specs.{started_in, starts, tasks}
+use Rattle.share_ledger.proofs.Words.{and_parts, both_ways, cases_Bool, eqb-true, false_from_ne_true, finisher_passed, forked_after, not-true, nothing_runs, or_parts, running_not_waiting, running_stays, running_unsettled}
+use Rattle.share_ledger.proofs.Words.{stage_forked, stage_same, stage_started, starter_passed, waiting_forked, waiting_unsettled}
+use Rattle.share_ledger.proofs.{Asks.asks_no_finish, Asks.asks_no_start, GrantWalks.granted_number, GrantWalks.to_fork, Histories.legal_advance, Histories.legal_empty, Histories.retired_without_scopes, Told.finished_is}
+use Rattle.share_ledger.proofs.{Told.seen_tells}
 
 -- a retirement finds each task settled
 retired_settled : (L : Limits) (h : History) (k : ℕ) → Legal L h → retire_check h 0 ≡ Ok tt → is_settled (stage h k) ≡ true

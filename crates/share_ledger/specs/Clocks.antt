@@ -1,7 +1,6 @@
 -- What options by a span are.
-use Rattle.std.specs.Prelude.{◌≡◌, ℕ, ◌+◌, ◌-◌, ◌^◌, min, false, Some}
-use Rattle.scope_rules.specs.declared.types.events.Expiry.{Expiry}
-use Rattle.scope_rules.specs.declared.types.events.Options.{Options}
+use Rattle.std.specs.Prelude.{ℕ, ◌+◌, ◌-◌, ◌^◌, ◌≡◌, Some, false, min}
+use Rattle.share_ledger.specs.Words.{Expiry, Options}
 
 -- no shield, and a deadline so long after the moment, or the last moment of all
 abbrev pub IsAfter : ℕ → ℕ → Expiry → Options → Type 0

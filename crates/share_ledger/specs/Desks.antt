@@ -1,14 +1,8 @@
 -- What the keeper's seat and a badge know.
-use Rattle.std.specs.Prelude.{◌≡◌, unwrap_or, List, [], ◌∷◌}
+use Rattle.std.specs.Prelude.{[], ◌∷◌, ◌≡◌, List, unwrap_or}
 use Rattle.std.proofs.Common.{lit≤}
-use Rattle.scope_rules.specs.declared.types.capacity.Limits.{Limits}
-use Rattle.share_ledger.specs.declared.steps.RealmStep.{RealmStep}
-use Rattle.share_ledger.specs.declared.steps.Holder.{Holder}
-use Rattle.share_ledger.specs.declared.steps.Holder.TheVariants.{TokenOf}
-use Rattle.share_ledger.specs.Holders.{Agrees}
-use Rattle.share_ledger.specs.declared.views.LedgerView.{LedgerView}
-use Rattle.share_ledger.specs.declared.views.LedgerView.TheVariants.{Keeping, Holding, Spent}
-use Rattle.share_ledger.specs.Views.{keeping, holding, newly_named}
+use Rattle.share_ledger.specs.Words.{Holder, Holding, Keeping, LedgerView, Limits, RealmStep, Spent, TokenOf}
+use Rattle.share_ledger.specs.{Holders.Agrees, Views.holding, Views.keeping, Views.newly_named}
 
 -- what a seat knows that has no limits
 abbrev pub least : Limits

@@ -1,14 +1,7 @@
 -- Whose own a step is, and what a holder that has seen a beginning of the list knows of the rest.
-use Rattle.std.specs.Prelude.{◌≡◌, ℕ, ◌==◌, Bool, true, false, List, [], ◌∷◌, ◌++◌}
-use Rattle.std.specs.List.{list_any}
-use Rattle.scope_rules.specs.declared.types.capacity.Limits.{Limits}
-use Rattle.scope_rules.specs.declared.types.events.Event.{Event}
-use Rattle.scope_rules.specs.declared.types.events.Event.TheVariants.{Open, Fork, Reject, Start, Finish, Cancel, Move, Tick, Bind, Unbind, Join, BeginClose, EndClose}
-use Rattle.share_ledger.specs.declared.steps.RealmStep.{RealmStep}
-use Rattle.share_ledger.specs.declared.steps.RealmStep.TheVariants.{Happened, Asked, Retirement}
-use Rattle.share_ledger.specs.declared.steps.Holder.{Holder}
-use Rattle.share_ledger.specs.declared.steps.Holder.TheVariants.{TokenOf, TicketOf}
-use Rattle.share_ledger.specs.Steps.{history_of, Passes, IsLegal}
+use Rattle.std.specs.Prelude.{[], ℕ, ◌++◌, ◌==◌, ◌∷◌, ◌≡◌, Bool, List, false, true}
+use Rattle.share_ledger.specs.Words.{Asked, BeginClose, Bind, Cancel, EndClose, Event, Finish, Fork, Happened, Holder, Join, Limits, Move, Open, RealmStep, Reject, Retirement, Start, Tick, TicketOf, TokenOf, Unbind, list_any}
+use Rattle.share_ledger.specs.Steps.{IsLegal, Passes, history_of}
 
 -- the event is of the actor: it acted, or it is the task that started or ended. A cancel, a move and a tick
 -- that don't say who asked are of every actor: so nobody can take them, and they stand in no list.

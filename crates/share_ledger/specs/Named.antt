@@ -1,5 +1,5 @@
 -- A job with its label, as contracts see it.
-use Rattle.scope_rules.specs.Ends.{LabelValue, EndValue}
+use Rattle.share_ledger.specs.Words.{EndValue, LabelValue}
 
 pub record NamedValue (J : Type 0) : Type 0 where
   pub label : LabelValue

@@ -1,6 +1,5 @@
 -- The tables that realms are named by.
-use Rattle.std.specs.Prelude.{[]}
-use Rattle.atomic_table.specs.Seated.{TableId}
+use Rattle.share_ledger.specs.Words.{[], TableId}
 
 -- a table that is no realm's
 abbrev pub no_table : TableId

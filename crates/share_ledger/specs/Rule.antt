@@ -1,18 +1,9 @@
 -- The rule of the table: a holder is named once, and its share agrees with the keeper's list.
-use Rattle.std.specs.Prelude.{◌≡◌, ◌≢◌, ℕ, ◌==◌, ◌&&◌, ◌||◌, Bool, true, false, nat_le, Option, Some, None, List, [], ◌∷◌}
-use Rattle.std.specs.List.{list_any}
-use mathlib.Core.Option as m
+use Rattle.std.specs.Prelude.{[], ℕ, ◌&&◌, ◌==◌, ◌||◌, ◌∷◌, ◌≡◌, ◌≢◌, Bool, List, None, Option, Some, false, nat_le, true}
+use Rattle.share_ledger.specs.Words.{Holder, Holding, Keeping, LedgerView, Limits, Opening, RealmStep, Share, Spent, TicketOf, TokenOf, list_any}
+use Rattle.share_ledger.specs.{Holders.Agrees, Holders.is_own, Tickets.forks, Tickets.started_in, Views.newly_named, Views.with_named}
 use lib.ListN.{get_elem?}
-use Rattle.scope_rules.specs.declared.types.capacity.Limits.{Limits}
-use Rattle.share_ledger.specs.declared.steps.RealmStep.{RealmStep}
-use Rattle.share_ledger.specs.declared.steps.Holder.{Holder}
-use Rattle.share_ledger.specs.declared.steps.Holder.TheVariants.{TokenOf, TicketOf}
-use Rattle.share_ledger.specs.Holders.{is_own, Agrees}
-use Rattle.share_ledger.specs.Tickets.{forks, started_in}
-use Rattle.share_ledger.specs.declared.views.Share.{Share}
-use Rattle.share_ledger.specs.declared.views.LedgerView.{LedgerView}
-use Rattle.share_ledger.specs.declared.views.LedgerView.TheVariants.{Opening, Keeping, Holding, Spent}
-use Rattle.share_ledger.specs.Views.{newly_named, with_named}
+use mathlib.Core.Option as m
 
 -- the two holders are one
 abbrev pub same_holder : Holder → Holder → Bool

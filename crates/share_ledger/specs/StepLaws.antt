@@ -1,20 +1,8 @@
 -- What holds of every list of steps.
-use Rattle.std.specs.Prelude.{◌≡◌, ℕ, ◌<◌, Bool, true, false, Option, Some, None, List, [], ◌∷◌, ◌++◌, if◌then◌else◌}
-use Rattle.scope_rules.specs.declared.types.capacity.Limits.{Limits}
-use Rattle.scope_rules.specs.declared.types.answers.Stage.TheVariants.{Waiting, Running}
-use Rattle.scope_rules.specs.declared.types.records.Forking.{Forking}
-use Rattle.scope_rules.specs.declared.types.records.Ending.{Ending}
-use Rattle.scope_rules.specs.Ends.{EndValue}
-use Rattle.scope_rules.specs.History.{tasks, forking}
-use Rattle.scope_rules.specs.Cancels.{cancelled_before}
-use Rattle.scope_rules.specs.Tasks.{stage, rejected, started, ending}
-use Rattle.scope_rules.specs.Legal.{Legal}
-use Rattle.share_ledger.specs.declared.steps.RealmStep.{RealmStep}
-use Rattle.share_ledger.specs.declared.steps.Holder.{Holder}
-use Rattle.share_ledger.specs.declared.steps.Holder.TheVariants.{TicketOf}
-use Rattle.share_ledger.specs.Steps.{advance, history_of, Passes, IsLegal}
-use Rattle.share_ledger.specs.Holders.{Agrees, Adds}
-use Rattle.share_ledger.specs.Tickets.{Grant, forks, grant_in, rejected_in, started_in, end_in, finished_in, given_in}
+use Rattle.std.specs.Prelude.{[], ℕ, ◌++◌, ◌<◌, ◌∷◌, ◌≡◌, Bool, List, None, Option, Some, false, if◌then◌else◌, true}
+use Rattle.share_ledger.specs.Words.{EndValue, Ending, Forking, Holder, Legal, Limits, RealmStep, Running, TicketOf, Waiting, cancelled_before, ending, forking, rejected, stage, started, tasks}
+use Rattle.share_ledger.specs.{Holders.Adds, Holders.Agrees, Steps.IsLegal, Steps.Passes, Steps.advance, Steps.history_of, Tickets.Grant, Tickets.end_in, Tickets.finished_in, Tickets.forks, Tickets.given_in, Tickets.grant_in}
+use Rattle.share_ledger.specs.{Tickets.rejected_in, Tickets.started_in}
 
 -- a beginning of a legal list is legal
 abbrev pub BeginningsAreLegal : Type 0

@@ -1,16 +1,6 @@
 -- A realm's list of steps: the history that it leaves, and which lists are legal.
-use Rattle.std.specs.Prelude.{◌≡◌, ℕ, Ok, List, [], ◌∷◌}
-use Rattle.scope_rules.specs.declared.types.capacity.Limits.{Limits}
-use Rattle.scope_rules.specs.declared.types.events.Event.{Event}
-use Rattle.scope_rules.specs.declared.types.events.Event.TheVariants.{Cancel, Move, Tick}
-use Rattle.scope_rules.specs.Origin.{the_start}
-use Rattle.scope_rules.specs.History.{History, followed}
-use Rattle.scope_rules.specs.Table.{retire_check}
-use Rattle.scope_rules.specs.Replies.{base_of}
-use Rattle.scope_rules.specs.Legal.{Accepts}
-use Rattle.share_ledger.specs.declared.steps.RealmStep.{RealmStep}
-use Rattle.share_ledger.specs.declared.steps.RealmStep.TheVariants.{Happened, Asked, Retirement}
-use Rattle.share_ledger.specs.declared.steps.Ask.{Ask}
+use Rattle.std.specs.Prelude.{[], ℕ, ◌∷◌, ◌≡◌, List, Ok}
+use Rattle.share_ledger.specs.Words.{Accepts, Ask, Asked, Cancel, Event, Happened, History, Limits, Move, RealmStep, Retirement, Tick, base_of, followed, retire_check, the_start}
 use Rattle.share_ledger.specs.declared.steps.Ask.TheVariants as ask
 
 -- the history of a realm that begins

@@ -1,18 +1,8 @@
 -- What the list of steps says of a task. It is read by position in the whole list, so that nothing is
 -- numbered anew if the realm is retired.
-use Rattle.std.specs.Prelude.{ℕ, ◌-◌, ◌==◌, ◌&&◌, Bool, false, not, Option, Some, None, is_some, List, [], ◌∷◌, count_by, if◌then◌else◌}
-use Rattle.std.specs.Option.{option_or}
-use Rattle.std.specs.List.{list_any}
-use Rattle.scope_rules.specs.declared.types.values.Label.{Label}
-use Rattle.scope_rules.specs.declared.types.events.Event.{Event}
-use Rattle.scope_rules.specs.declared.types.events.Event.TheVariants.{Fork, Finish}
-use Rattle.scope_rules.specs.Ends.{EndValue}
-use Rattle.scope_rules.specs.History.{History, is_fork}
-use Rattle.scope_rules.specs.Cancels.{is_cancelled}
-use Rattle.scope_rules.specs.Tasks.{rejects, starts}
-use Rattle.share_ledger.specs.declared.steps.RealmStep.{RealmStep}
-use Rattle.share_ledger.specs.declared.steps.RealmStep.TheVariants.{Happened, Asked, Retirement}
-use Rattle.share_ledger.specs.Steps.{asked, fresh, advance}
+use Rattle.std.specs.Prelude.{[], ℕ, ◌&&◌, ◌-◌, ◌==◌, ◌∷◌, Bool, List, None, Option, Some, count_by, false, if◌then◌else◌, is_some, not}
+use Rattle.share_ledger.specs.Words.{Asked, EndValue, Event, Finish, Fork, Happened, History, Label, RealmStep, Retirement, is_cancelled, is_fork, list_any, option_or, rejects, starts}
+use Rattle.share_ledger.specs.Steps.{advance, asked, fresh}
 
 -- the step is an event that passes the test
 abbrev pub is_event : (Event → Bool) → RealmStep → Bool

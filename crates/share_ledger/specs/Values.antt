@@ -1,18 +1,7 @@
 -- What contracts see of the keeper, of a token's share and of a ticket.
-use Rattle.std.specs.Prelude.{◌≡◌, ℕ, ◌&&◌, Bool, true, false, not, Option, Some, List, if◌then◌else◌}
-use Rattle.scope_rules.specs.declared.types.capacity.Limits.{Limits}
-use Rattle.scope_rules.specs.declared.types.values.Label.{Label}
-use Rattle.scope_rules.specs.declared.types.events.Event.{Event}
-use Rattle.scope_rules.specs.declared.types.events.Event.TheVariants.{Fork, Start, Finish}
-use Rattle.scope_rules.specs.Ends.{EndValue}
-use Rattle.share_ledger.specs.declared.steps.RealmStep.{RealmStep}
-use Rattle.share_ledger.specs.declared.steps.Holder.{Holder}
-use Rattle.share_ledger.specs.declared.steps.Holder.TheVariants.{TokenOf, TicketOf}
-use Rattle.share_ledger.specs.Holders.{is_of_actor, Agrees}
-use Rattle.share_ledger.specs.Tickets.{grant_in, given_in, started_in, finished_in, end_in}
-use Rattle.atomic_table.specs.Seated.{TableId}
-use Rattle.share_ledger.specs.declared.views.LedgerView.{LedgerView}
-use Rattle.share_ledger.specs.Desks.{steps_of, view_of, IsShareOf}
+use Rattle.std.specs.Prelude.{ℕ, ◌&&◌, ◌≡◌, Bool, List, Option, Some, false, if◌then◌else◌, not, true}
+use Rattle.share_ledger.specs.Words.{EndValue, Event, Finish, Fork, Holder, Label, LedgerView, Limits, RealmStep, Start, TableId, TicketOf, TokenOf}
+use Rattle.share_ledger.specs.{Desks.IsShareOf, Desks.steps_of, Desks.view_of, Holders.Agrees, Holders.is_of_actor, Tickets.end_in, Tickets.finished_in, Tickets.given_in, Tickets.grant_in, Tickets.started_in}
 
 -- the keeper: its realm's table, the limits and the whole list
 pub record KeeperValue : Type 0 where

@@ -1,20 +1,8 @@
 -- What the seats of the table know, and how that changes.
-use Rattle.std.specs.Prelude.{◌≡◌, ◌+◌, false, Option, Some, None, List, [], ◌∷◌, ◌++◌}
-use Rattle.std.specs.List.{list_any}
+use Rattle.std.specs.Prelude.{[], ◌++◌, ◌+◌, ◌∷◌, ◌≡◌, List, None, Option, Some, false}
+use Rattle.share_ledger.specs.Words.{Fork, Happened, Holder, Holding, Keeping, LedgerView, Limited, Limits, Me, RealmStep, Said, Spent, Start, Stepped, TicketOf, TokenOf, list_any}
+use Rattle.share_ledger.specs.{Holders.Agrees, Holders.is_own, Tickets.forks}
 use mathlib.Core.Option as m
-use Rattle.scope_rules.specs.declared.types.capacity.Limits.{Limits}
-use Rattle.scope_rules.specs.declared.types.events.Event.TheVariants.{Fork, Start}
-use Rattle.share_ledger.specs.declared.steps.RealmStep.{RealmStep}
-use Rattle.share_ledger.specs.declared.steps.RealmStep.TheVariants.{Happened}
-use Rattle.share_ledger.specs.declared.steps.Holder.{Holder}
-use Rattle.share_ledger.specs.declared.steps.Holder.TheVariants.{TokenOf, TicketOf}
-use Rattle.share_ledger.specs.Holders.{is_own, Agrees}
-use Rattle.share_ledger.specs.Tickets.{forks}
-use Rattle.atomic_table.specs.Table.{Me}
-use Rattle.share_ledger.specs.declared.views.Said.{Said}
-use Rattle.share_ledger.specs.declared.views.Said.TheVariants.{Limited, Stepped}
-use Rattle.share_ledger.specs.declared.views.LedgerView.{LedgerView}
-use Rattle.share_ledger.specs.declared.views.LedgerView.TheVariants.{Keeping, Holding, Spent}
 
 -- the keeper's view between two moves: nothing has just arrived
 abbrev pub keeping : Limits → List RealmStep → List Holder → LedgerView

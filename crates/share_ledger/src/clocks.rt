@@ -1,6 +1,5 @@
-ghost use Rattle.std.specs.Prelude.{◌≡◌, ◌≤◌, IfSome, Some, None, false};
-ghost use Rattle.scope_rules.specs.declared.types.events.Expiry.TheVariants.{Fail, MoveOn};
-ghost use Rattle.share_ledger.specs.Clocks.{IsAfter};
+ghost use Rattle.std.specs.Prelude.{◌≡◌, ◌≤◌, IfSome, None, Some, false};
+ghost use Rattle.share_ledger.specs.{Fail, IsAfter, MoveOn};
 
 use scope_rules::Options;
 use std::rt::Clock as SystemTime;

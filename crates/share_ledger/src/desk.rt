@@ -1,10 +1,8 @@
 //! The keeper's seat at the table, and the moves through it.
-ghost use Rattle.std.specs.Prelude.{◌≡◌, [], ◌∷◌, ◌++◌, IfOk};
-ghost use Rattle.share_ledger.specs.declared.steps.Holder.TheVariants.{TokenOf};
-ghost use Rattle.share_ledger.specs.declared.views.LedgerView.TheVariants.{Opening};
-ghost use Rattle.share_ledger.specs.Views.{keeping, holding, newly_named, with_named, IsFresh};
-ghost use Rattle.share_ledger.specs.Rule.{MayAppend};
-ghost use Rattle.share_ledger.specs.Desks.{limits_of, steps_of, hand_of, holder_of, view_of, IsReady, IsShareOf, IsKnown, first_in, others_in};
+ghost use Rattle.std.specs.Prelude.{[], ◌++◌, ◌∷◌, ◌≡◌, IfOk};
+ghost use Rattle.share_ledger.specs.Words.{Opening, TokenOf};
+ghost use Rattle.share_ledger.specs.{Desks.IsKnown, Desks.IsReady, Desks.IsShareOf, Desks.first_in, Desks.hand_of, Desks.holder_of, Desks.limits_of, Desks.others_in, Desks.steps_of, Desks.view_of, Rule.MayAppend, Views.IsFresh};
+ghost use Rattle.share_ledger.specs.{Views.holding, Views.keeping, Views.newly_named, Views.with_named};
 
 use crate::RealmStep;
 use crate::rule::{Append, GiveOut, HandIn, Limit, Look, NamedOnce};

@@ -1,10 +1,5 @@
-ghost use Rattle.std.specs.Prelude.{◌≡◌, [], ◌++◌, ◌∷◌, true, false, None, ◌+◌, Some};
-ghost use Rattle.share_ledger.specs.Steps.{history_of, step_by};
-ghost use Rattle.share_ledger.specs.Tickets.{given_in, started_in, end_in, finished_in};
-ghost use Rattle.scope_rules.specs.Cancels.{is_cancelled};
-ghost use Rattle.scope_rules.specs.History.{tasks};
-ghost use Rattle.share_ledger.specs.Desks.{limits_of, steps_of, IsReady};
-ghost use Rattle.share_ledger.specs.Values.{OwnerAgrees, TicketAgrees, IsWaiting, is_recorded_by};
+ghost use Rattle.std.specs.Prelude.{[], ◌++◌, ◌+◌, ◌∷◌, ◌≡◌, None, Some, false, true};
+ghost use Rattle.share_ledger.specs.{IsReady, IsWaiting, OwnerAgrees, TicketAgrees, end_in, finished_in, given_in, history_of, is_cancelled, is_recorded_by, limits_of, started_in, step_by, steps_of, tasks};
 
 use crate::RealmStep;
 use crate::desk::Desk;

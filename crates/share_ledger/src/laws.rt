@@ -1,6 +1,6 @@
 //! What holds of every list of steps. Each function does nothing: its contract is the law.
 
-ghost use Rattle.share_ledger.specs.StepLaws.{BeginningsAreLegal, HistoriesAreLegal, StepsGoOn, TasksAreForks, GivenTicketsWait, StartedTicketsRun, AcceptedStepsAdd, SeenTicketsTell, TicketsTellStages};
+ghost use Rattle.share_ledger.specs.{AcceptedStepsAdd, BeginningsAreLegal, GivenTicketsWait, HistoriesAreLegal, SeenTicketsTell, StartedTicketsRun, StepsGoOn, TasksAreForks, TicketsTellStages};
 
 /// A beginning of a legal list is legal.
 pub fn beginnings_are_legal()

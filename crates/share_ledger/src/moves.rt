@@ -1,8 +1,6 @@
 //! The moves of one hold: shares are handed in, a step is appended, and they are given out again.
-ghost use Rattle.std.specs.Prelude.{◌≡◌, None, Some, [], ◌∷◌, ◌++◌};
-ghost use Rattle.share_ledger.specs.Views.{keeping, holding, newly_named, IsFresh};
-ghost use Rattle.share_ledger.specs.Rule.{MayAppend};
-ghost use Rattle.share_ledger.specs.Desks.{limits_of, steps_of, holder_of, view_of, named_by, IsReady, IsShareOf, IsKnown};
+ghost use Rattle.std.specs.Prelude.{[], ◌++◌, ◌∷◌, ◌≡◌, None, Some};
+ghost use Rattle.share_ledger.specs.{IsFresh, IsKnown, IsReady, IsShareOf, MayAppend, holder_of, holding, keeping, limits_of, named_by, newly_named, steps_of, view_of};
 
 use crate::RealmStep;
 use crate::desk::Desk;

@@ -1,6 +1,5 @@
 ghost use Rattle.std.specs.Prelude.{◌≡◌};
-ghost use Rattle.share_ledger.specs.declared.steps.Holder.TheVariants.{TokenOf};
-ghost use Rattle.share_ledger.specs.Desks.{limits_of, steps_of, view_of, IsShareOf};
+ghost use Rattle.share_ledger.specs.{IsShareOf, TokenOf, limits_of, steps_of, view_of};
 
 use crate::views::LedgerView;
 use atomic_table::Badge;

@@ -1,5 +1,5 @@
 ghost use Rattle.std.specs.Prelude.{◌≡◌};
-ghost use Rattle.share_ledger.specs.Steps.{step_by};
+ghost use Rattle.share_ledger.specs.{step_by};
 
 use scope_rules::{Actor, Event, ScopeId, TaskId};
 

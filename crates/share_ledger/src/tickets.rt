@@ -1,8 +1,5 @@
-ghost use Rattle.std.specs.Prelude.{◌≡◌, true, false, None, Some};
-ghost use Rattle.std.specs.List.{sum_by};
-ghost use Rattle.share_ledger.specs.Tickets.{grant_in, end_in};
-ghost use Rattle.share_ledger.specs.Values.{IsTicket, IsWaiting, given_count, started_count, finished_count};
-ghost use Rattle.share_ledger.specs.Desks.{limits_of, steps_of, view_of};
+ghost use Rattle.std.specs.Prelude.{◌≡◌, None, Some, false, true};
+ghost use Rattle.share_ledger.specs.{IsTicket, IsWaiting, end_in, finished_count, given_count, grant_in, limits_of, started_count, steps_of, sum_by, view_of};
 
 use crate::views::LedgerView;
 use atomic_table::Badge;

@@ -1,14 +1,7 @@
 -- What is answered of scopes that were opened since the base, and that others are refused.
-use Rattle.std.proofs.Common.{◌≡◌, ℕ, ok_or, Option, Some, None, Result, Ok, Err, option_map, refl, ap, sym, ◌∙◌}
-use Rattle.scope_rules.specs.declared.types.infos.ScopeInfo.{ScopeInfo}
-use Rattle.scope_rules.specs.declared.types.refusals.Refusal.{Refusal}
-use Rattle.scope_rules.specs.declared.types.refusals.Refusal.TheVariants.{NoScope}
-use Rattle.scope_rules.specs.declared.types.records.Opening.{Opening}
-use Rattle.scope_rules.specs.History.{History, opening}
-use Rattle.scope_rules.specs.Nests.{info, info_of, info_reply}
-use Rattle.scope_rules.specs.Checks.{Checked, scope_check}
-use Rattle.scope_rules.specs.Table.{checked_then}
-use Rattle.scope_checks.proofs.Checked.{scope_passes}
+use Rattle.std.proofs.Common.{ℕ, ◌∙◌, ◌≡◌, Err, None, Ok, Option, Result, Some, ap, ok_or, option_map, refl, sym}
+use Rattle.tree_dump.specs.{Checked, History, NoScope, Opening, Refusal, ScopeInfo, checked_then, info, info_of, info_reply, opening, scope_check}
+use Rattle.tree_dump.proofs.Lemmas.{scope_passes}
 
 value_of : {A : Type 0} (c : Checked) (o : Option A) (r : Refusal) (x : A) → checked_then c (ok_or o r) ≡ Ok x → o ≡ Some x
 value_of (Ok done) (Some y) r x e = cc

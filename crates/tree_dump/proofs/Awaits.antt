@@ -1,16 +1,7 @@
 -- That a scope's line counts the tasks that wait or run, and all tasks.
-use Rattle.std.proofs.Common.{◌≡◌, ℕ, ◌+◌, ◌&&◌, Bool, true, false, not, cond, List, [], ◌∷◌, ◌++◌, count_by, length, refl, ap, sym, ◌∙◌, arith}
-use Rattle.std.specs.Fmt.{decimal}
-use Rattle.std.proofs.lemmas.List.Sums.{length-filter}
-use Rattle.std.specs.Prelude.{codes}
-use Rattle.scope_rules.specs.declared.types.answers.Stage.{Stage}
-use Rattle.scope_rules.specs.declared.types.answers.Stage.TheVariants.{Never, Waiting, Running, Finished}
-use Rattle.scope_rules.specs.History.{History, task_numbers}
-use Rattle.scope_rules.specs.Completions.{is_task_of}
-use Rattle.scope_rules.specs.Nests.{tasks_of}
-use Rattle.scope_rules.specs.Tasks.{stage, is_at, is_stage, is_settled, is_unsettled, counts}
-use Rattle.scope_rules.proofs.Completions.{count_by-cons}
-use Rattle.tree_dump.specs.Awaits.{TreeAwaits}
+use Rattle.std.proofs.Common.{[], ℕ, ◌&&◌, ◌++◌, ◌+◌, ◌∙◌, ◌∷◌, ◌≡◌, Bool, List, ap, arith, codes, cond, count_by, false, length, not, refl, sym, true}
+use Rattle.tree_dump.specs.{Finished, History, Never, Running, Stage, TreeAwaits, Waiting, counts, decimal, is_at, is_settled, is_stage, is_task_of, is_unsettled, stage, task_numbers, tasks_of}
+use Rattle.tree_dump.proofs.Lemmas.{count_by-cons, length-filter}
 
 unit : Bool → ℕ
 unit b = cond b 1 0

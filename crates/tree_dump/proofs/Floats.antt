@@ -1,23 +1,8 @@
 -- A dump has no float.
-use Rattle.std.proofs.Common.{◌≡◌, ℕ, zero, suc, false, List, [], ◌∷◌, map, Option, Some, None, option_map, refl}
-use Rattle.std.specs.Option.{option_map_or}
-use Rattle.scope_rules.specs.declared.types.answers.Cause.{Cause}
-use Rattle.scope_rules.specs.declared.types.answers.State.{State}
-use Rattle.scope_rules.specs.declared.types.answers.State.TheVariants.{Unavailable, Success, Failed}
-use Rattle.scope_rules.specs.declared.types.infos.ScopeInfo.{ScopeInfo}
-use Rattle.scope_rules.specs.declared.types.values.Value.TheVariants.{Num, Text}
-use Rattle.scope_rules.specs.declared.types.capacity.Limits.{Limits}
-use Rattle.scope_rules.specs.History.{History}
-use Rattle.scope_rules.specs.Nests.{outermost, inner, info, tasks_of}
-use Rattle.serde_json.specs.Data.{Data, Items, null}
-use Rattle.serde_json.specs.View.{items_of}
-use Rattle.serde_json.specs.Written.{has_float, items_have_float}
-use Rattle.tree_dump.specs.Ages.{Clock, scope_since, task_times}
-use Rattle.tree_dump.specs.Objects.{number_or_null, cause_or_null, result_data, scope_object, task_object}
-use Rattle.tree_dump.specs.Tree.{task_told, task_shown, tasks_shown, scope_shown, nested, levels, dump_data}
-use Rattle.tree_dump.specs.Timed.{timed_dump_data}
-use Rattle.tree_dump.specs.declared.ages.TaskTimes.{TaskTimes}
-use Rattle.tree_dump.specs.declared.told.TaskTold.{TaskTold}
+use Rattle.std.proofs.Common.{[], ℕ, ◌∷◌, ◌≡◌, List, None, Option, Some, false, map, option_map, refl, suc, zero}
+use Rattle.tree_dump.specs.{Cause, Clock, Data, Failed, History, Items, Limits, Num, ScopeInfo, State, Success, TaskTimes, TaskTold, Text, Tree.nested, Unavailable, cause_or_null, dump_data, has_float, info, inner}
+use Rattle.tree_dump.specs.{items_have_float, items_of, levels, null, number_or_null, option_map_or, outermost, result_data, scope_object, scope_shown, scope_since, task_object, task_shown, task_times, task_told, tasks_of}
+use Rattle.tree_dump.specs.{tasks_shown, timed_dump_data}
 
 number_whole : (n : Option ℕ) → has_float (number_or_null n) ≡ false
 number_whole None = refl

@@ -1,27 +1,9 @@
 -- What lies inside a scope was opened in it, and lies there alone.
-use Rattle.std.proofs.Common.{◌≡◌, ◌⊎◌, inl, inr, ℕ, zero, suc, ◌+◌, ◌<◌, ◌≤◌, ◌==◌, ◌&&◌, not, nat_lt, option_map, if◌then◌else◌, Bool, true, false, cond, Option, Some, None, refl, ap, sym, ◌∙◌, arith, subst}
-use Rattle.std.proofs.lemmas.Bool.{cases_eq, cases_lt, eq-eqb, eqb-true, lt-ltb, ltb-true}
-use Rattle.std.specs.Option.{option_and_then, option_or}
-use Rattle.scope_rules.specs.declared.types.capacity.Limits.{Limits}
-use Rattle.scope_rules.specs.declared.types.records.Forking.{Forking}
-use Rattle.scope_rules.specs.declared.types.records.Opening.{Opening}
-use Rattle.scope_rules.specs.History.{History, before, forking, opened_count, opening}
-use Rattle.scope_rules.specs.Legal.{Legal}
-use Rattle.scope_rules.specs.Nests.{inner, next_unclosed, outermost}
-use Rattle.scope_rules.specs.Nests.{unclosed_after}
-use Rattle.scope_rules.specs.Scopes.{around, closed, forked_in, innermost, parent, surrounding, unclosed_of}
-use Rattle.scope_rules.specs.Search.{earliest}
-use Rattle.scope_rules.specs.Tasks.{is_running, stage}
-use Rattle.scope_rules.proofs.Earlier.{earliest_first, forking_since, opening_since, scope_given, unclosed_before}
-use Rattle.scope_rules.proofs.Forkings.{main_unforked, opening_row}
-use Rattle.scope_rules.proofs.Growing.{opening_number}
-use Rattle.scope_rules.proofs.InnermostEnds.{opened_first, unclosed_around}
-use Rattle.scope_rules.proofs.Innermosts.{HasUnclosed, innermost_later, innermost_none, innermost_unclosed, opened_after}
-use Rattle.scope_rules.proofs.Openings.{and_then_some, if_some}
-use Rattle.scope_rules.proofs.Parents.{parent_smaller}
-use Rattle.scope_rules.proofs.PassedRows.{IsActor}
-use Rattle.scope_rules.proofs.Stages.{running_forked}
-use Rattle.scope_rows.proofs.FirstUnclosed.{outermost_is}
+use Rattle.std.proofs.Common.{ℕ, ◌&&◌, ◌+◌, ◌<◌, ◌==◌, ◌∙◌, ◌≡◌, ◌≤◌, ◌⊎◌, Bool, None, Option, Some, ap, arith, cond, false, if◌then◌else◌, inl, inr, nat_lt, not, option_map, refl, subst, suc, sym, true, zero}
+use Rattle.tree_dump.specs.{Forking, History, Legal, Limits, Opening, around, before, closed, earliest, forked_in, forking, inner, innermost, is_running, next_unclosed, opened_count, opening, option_and_then, option_or, outermost}
+use Rattle.tree_dump.specs.{parent, stage, surrounding, unclosed_after, unclosed_of}
+use Rattle.tree_dump.proofs.Lemmas.{HasUnclosed, IsActor, and_then_some, cases_eq, cases_lt, earliest_first, eq-eqb, eqb-true, forking_since, if_some, innermost_later, innermost_none, innermost_unclosed, lt-ltb, ltb-true}
+use Rattle.tree_dump.proofs.Lemmas.{main_unforked, opened_after, opened_first, opening_number, opening_row, opening_since, outermost_is, parent_smaller, running_forked, scope_given, unclosed_around, unclosed_before}
 
 -- ---- what is next
 

@@ -18,3 +18,4 @@ mod ShowsAwaited
 mod Lying
 mod ShowsLevels
 mod Stamped
+mod Lemmas

@@ -1,8 +1,7 @@
 -- Sums over the tasks of a scope.
-use Rattle.std.proofs.Common.{◌≡◌, ◌≢◌, ◌⊎◌, inl, inr, ℕ, zero, suc, ◌+◌, ◌<◌, ◌≤◌, ◌==◌, Bool, true, false, cond, Some, List, [], ◌∷◌, slice_get, sum_by, refl, ap, sym, ◌∙◌, arith}
-use Rattle.std.proofs.lemmas.Bool.{cases_eq, eq-eqb, ne_eqb}
-use Rattle.std.proofs.lemmas.List.Sums.{sum_by-cons}
-use Rattle.std.specs.List.{filter, range_with_len}
+use Rattle.std.proofs.Common.{[], ℕ, ◌+◌, ◌<◌, ◌==◌, ◌∙◌, ◌∷◌, ◌≡◌, ◌≢◌, ◌≤◌, ◌⊎◌, Bool, List, Some, ap, arith, cond, false, inl, inr, refl, slice_get, suc, sum_by, sym, true, zero}
+use Rattle.tree_dump.specs.{filter, range_with_len}
+use Rattle.tree_dump.proofs.Lemmas.{cases_eq, eq-eqb, ne_eqb, sum_by-cons}
 
 abbrev pub unit : Bool → ℕ
 unit b = cond b 1 0

@@ -1,27 +1,9 @@
 -- What the tree shows of a scope is all that lies in it and is not closed.
-use Rattle.std.proofs.Common.{◌≡◌, ◌⊎◌, inl, inr, ℕ, zero, suc, ◌+◌, ◌<◌, ◌≤◌, ◌==◌, ◌&&◌, ◌||◌, not, Bool, true, false, cond, Option, Some, None, List, slice_get, refl, ap, sym, ◌∙◌, subst, arith}
-use Rattle.std.proofs.lemmas.Bool.{cases_eq, eq-eqb, ne_eqb}
-use Rattle.std.specs.List.{list_any}
-use Rattle.scope_rules.specs.declared.types.capacity.Limits.{Limits}
-use Rattle.scope_rules.specs.declared.types.infos.ScopeInfo.{ScopeInfo}
-use Rattle.scope_rules.specs.declared.types.records.Opening.{Opening}
-use Rattle.scope_rules.specs.Chains.{chain_by, onward}
-use Rattle.scope_rules.specs.History.{History, opening}
-use Rattle.scope_rules.specs.Legal.{Legal}
-use Rattle.scope_rules.specs.Nests.{info, inner, outermost, tasks_of}
-use Rattle.scope_rules.specs.Scopes.{closed, parent}
-use Rattle.scope_rules.proofs.ChainLaws.{chain_law}
-use Rattle.scope_rules.proofs.Forkings.{task_there}
-use Rattle.scope_rules.proofs.Levels.{parent_inward}
-use Rattle.scope_rules.proofs.Parents.{parent_smaller}
-use Rattle.scope_rows.proofs.FirstUnclosed.{outermost_is}
-use Rattle.tree_dump.specs.Ages.{Clock}
-use Rattle.tree_dump.specs.Once.{Line}
-use Rattle.tree_dump.specs.ShowsLevels.{lies_in}
-use Rattle.tree_dump.proofs.Insides.{OnChain, first_up, inner_parent, is_next, itself, outermost_parent, root_parent, up}
-use Rattle.tree_dump.proofs.Listed.{some_or_none, sum_least, unit}
-use Rattle.tree_dump.proofs.Once.{lines_at, listed_task, most_once, shows_below, split, times}
-use Rattle.tree_dump.proofs.Shows.{opened_info, reached}
+use Rattle.std.proofs.Common.{ℕ, ◌&&◌, ◌+◌, ◌<◌, ◌==◌, ◌||◌, ◌∙◌, ◌≡◌, ◌≤◌, ◌⊎◌, Bool, List, None, Option, Some, ap, arith, cond, false, inl, inr, not, refl, slice_get, subst, suc, sym, true, zero}
+use Rattle.tree_dump.specs.{Clock, History, Legal, Limits, Line, Opening, ScopeInfo, chain_by, closed, info, inner, lies_in, list_any, onward, opening, outermost, parent, tasks_of}
+use Rattle.tree_dump.proofs.Lemmas.{cases_eq, chain_law, eq-eqb, ne_eqb, outermost_is, parent_inward, parent_smaller, task_there}
+use Rattle.tree_dump.proofs.{Insides.OnChain, Insides.first_up, Insides.inner_parent, Insides.is_next, Insides.itself, Insides.outermost_parent, Insides.root_parent, Insides.up, Listed.some_or_none, Listed.sum_least, Listed.unit}
+use Rattle.tree_dump.proofs.{Once.lines_at, Once.listed_task, Once.most_once, Once.shows_below, Once.split, Once.times, Shows.opened_info, Shows.reached}
 
 module _ (L : Limits) (h : History) (legal : Legal L h) (s : ℕ) where
   -- ---- the chain

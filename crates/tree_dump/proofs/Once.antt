@@ -1,34 +1,14 @@
 -- The tree shows each scope that is not closed, and each of its tasks, exactly once.
-use Rattle.std.proofs.Common.{◌≡◌, ◌⊎◌, inl, inr, ℕ, zero, suc, ◌+◌, ◌<◌, ◌≤◌, ◌==◌, option_map, Bool, true, false, cond, Option, Some, None, List, [], ◌∷◌, ◌++◌, slice_get, count_by, sum_by, codes, refl, ap, sym, ◌∙◌, arith, subst, append_assoc}
-use Rattle.std.proofs.lemmas.Bool.{cases_eq, eq-eqb, ne_eqb}
-use Rattle.std.proofs.lemmas.List.{append-nil, length-take}
-use Rattle.std.proofs.lemmas.List.Concat.{flat_map-append}
-use Rattle.std.proofs.lemmas.List.Sums.{sum_by-append, sum_by-cons}
-use Rattle.std.specs.List.{flat_map}
-use Rattle.std.specs.Option.{option_and_then, option_map_or}
-use Rattle.scope_rules.specs.declared.types.capacity.Limits.{Limits}
-use Rattle.scope_rules.specs.declared.types.infos.ScopeInfo.{ScopeInfo}
-use Rattle.scope_rules.specs.declared.types.records.Forking.{Forking}
-use Rattle.scope_rules.specs.declared.types.records.Opening.{Opening}
-use Rattle.scope_rules.specs.Completions.{is_task_of}
-use Rattle.scope_rules.specs.History.{History, before, forked_count, forking, moment, opening, task_numbers}
-use Rattle.scope_rules.specs.Legal.{Legal}
-use Rattle.scope_rules.specs.Nests.{info, info_of, inner, outermost, tasks_of}
-use Rattle.scope_rules.specs.Scopes.{closed, parent}
-use Rattle.scope_rules.proofs.Earlier.{forking_since, forking_within, opening_since, opening_within}
-use Rattle.scope_rules.proofs.Forkings.{IsTask, forked_after, forking_row, main_unforked, opening_row, task_there}
-use Rattle.scope_rules.proofs.Innermosts.{HasUnclosed}
-use Rattle.scope_rules.proofs.Nesting.{forked_opened}
-use Rattle.scope_rules.proofs.Parents.{parent_smaller}
-use Rattle.scope_rules.proofs.Stages.{running_forked}
-use Rattle.scope_rows.proofs.FirstUnclosed.{outermost_is}
-use Rattle.tree_dump.proofs.Shows.{opened_info, reached}
-use Rattle.tree_dump.specs.Ages.{Clock}
-use Rattle.tree_dump.specs.Once.{IsTreeOf, Line, OfScope, OfTask, TreeShowsEachOnce, is_of_scope, is_of_task, line_text}
-use Rattle.tree_dump.specs.TextLines.{moment_line}
-use Rattle.tree_dump.specs.TextTree.{nested, open_text, scope_line, scope_lines, task_line, task_lines, tasks_lines, tree_by}
-use Rattle.tree_dump.proofs.Insides.{OnChain, is_next, inner_parent, itself, only_one, outermost_parent, smaller, up}
-use Rattle.tree_dump.proofs.Listed.{count_listed, listed_holds, some_or_none, sum_both, sum_least, sum_most, sum_same, sum_some, unit}
+use Rattle.std.proofs.Common.{[], ℕ, ◌++◌, ◌+◌, ◌<◌, ◌==◌, ◌∙◌, ◌∷◌, ◌≡◌, ◌≤◌, ◌⊎◌, Bool, List, None, Option, Some, ap, append_assoc, arith, codes, cond, count_by, false, inl, inr, option_map, refl, slice_get, subst, suc, sum_by}
+use Rattle.std.proofs.Common.{sym, true, zero}
+use Rattle.scope_rules.proofs.Forkings.{IsTask}
+use Rattle.tree_dump.specs.{Clock, Forking, History, IsTreeOf, Legal, Limits, Line, OfScope, OfTask, Opening, ScopeInfo, TextTree.nested, TextTree.open_text, TreeShowsEachOnce, before, closed, flat_map, forked_count, forking}
+use Rattle.tree_dump.specs.{info, info_of, inner, is_of_scope, is_of_task, is_task_of, line_text, moment, moment_line, opening, option_and_then, option_map_or, outermost, parent, scope_line, scope_lines, task_line, task_lines}
+use Rattle.tree_dump.specs.{task_numbers, tasks_lines, tasks_of, tree_by}
+use Rattle.tree_dump.proofs.Lemmas.{HasUnclosed, append-nil, cases_eq, eq-eqb, flat_map-append, forked_after, forked_opened, forking_row, forking_since, forking_within, length-take, main_unforked, ne_eqb, opening_row}
+use Rattle.tree_dump.proofs.Lemmas.{opening_since, opening_within, outermost_is, parent_smaller, running_forked, sum_by-append, sum_by-cons, task_there}
+use Rattle.tree_dump.proofs.{Insides.OnChain, Insides.inner_parent, Insides.is_next, Insides.itself, Insides.only_one, Insides.outermost_parent, Insides.smaller, Insides.up, Listed.count_listed, Listed.listed_holds}
+use Rattle.tree_dump.proofs.{Listed.some_or_none, Listed.sum_both, Listed.sum_least, Listed.sum_most, Listed.sum_same, Listed.sum_some, Listed.unit, Shows.opened_info, Shows.reached}
 
 -- ---- the lines of the tree
 

@@ -1,19 +1,7 @@
 -- Each number since the base is that of a scope, and there are no more scopes and tasks than the limits let.
-use Rattle.std.proofs.Common.{◌≡◌, inl, inr, ℕ, ◌+◌, ◌<◌, ◌≤◌, ◌==◌, is_some, Bool, true, false, cond, Option, Some, None, [], refl, ap, ◌∙◌, arith}
-use Rattle.std.proofs.lemmas.Bool.{cases_lt, eq-eqb}
-use Rattle.std.specs.Option.{option_or}
-use Rattle.scope_rules.specs.declared.types.capacity.Limits.{Limits}
-use Rattle.scope_rules.specs.declared.types.events.Event.{Event}
-use Rattle.scope_rules.specs.declared.types.events.Event.TheVariants.{Open, Fork}
-use Rattle.scope_rules.specs.declared.types.records.Opening.{Opening}
-use Rattle.scope_rules.specs.Origin.{Origin}
-use Rattle.scope_rules.specs.History.{History, followed, forked_count, is_fork, is_open, opened_count, opening, scopes}
-use Rattle.scope_rules.specs.Legal.{Accepts, Legal}
-use Rattle.scope_rules.proofs.Growing.{opening_stays}
-use Rattle.scope_rules.proofs.Nesting.{IsOpened, opened_some}
-use Rattle.scope_rules.proofs.OneEventMore.{along, later, opening_grows}
-use Rattle.scope_rules.proofs.Owing.{count_push}
-use Rattle.scope_rules.proofs.Pushing.{fork_number, open_number}
+use Rattle.std.proofs.Common.{[], ℕ, ◌+◌, ◌<◌, ◌==◌, ◌∙◌, ◌≡◌, ◌≤◌, Bool, None, Option, Some, ap, arith, cond, false, inl, inr, is_some, refl, true}
+use Rattle.tree_dump.specs.{Accepts, Event, Fork, History, Legal, Limits, Open, Opening, Origin, followed, forked_count, is_fork, is_open, opened_count, opening, option_or, scopes}
+use Rattle.tree_dump.proofs.Lemmas.{IsOpened, along, cases_lt, count_push, eq-eqb, fork_number, later, open_number, opened_some, opening_grows, opening_stays}
 
 -- ---- each number is that of a scope
 

@@ -1,11 +1,7 @@
 -- What a part of the tree has, one number after the other.
-use Rattle.std.proofs.Common.{◌≡◌, ℕ, ◌+◌, List, [], ◌∷◌, ◌++◌, Some, take, slice_get, refl, ap, sym, ◌∙◌, append-nil}
-use Rattle.std.proofs.lemmas.List.{flat_map_more}
-use Rattle.std.proofs.lemmas.List.Concat.{flat_map-append}
-use Rattle.std.specs.Prelude.{fold}
-use Rattle.std.specs.List.{flat_map, range_with_len}
-use Rattle.scope_rules.proofs.Numbers.{range_push}
-use Rattle.scope_rules.proofs.Prefixes.{take_at}
+use Rattle.std.proofs.Common.{[], ℕ, ◌++◌, ◌+◌, ◌∙◌, ◌∷◌, ◌≡◌, List, Some, ap, append-nil, fold, refl, slice_get, sym, take}
+use Rattle.tree_dump.specs.{flat_map, range_with_len}
+use Rattle.tree_dump.proofs.Lemmas.{flat_map-append, flat_map_more, range_push, take_at}
 
 fold_push : {A : Type 0} (f : A → ℕ → A) (x : A) (ns : List ℕ) (n : ℕ) → fold f x (ns ++ n ∷ []) ≡ f (fold f x ns) n
 fold_push f x [] n = refl

@@ -1,26 +1,9 @@
 -- The tree behind a retirement is the tree without it.
-use Rattle.std.proofs.Common.{◌≡◌, ℕ, zero, suc, ◌+◌, Option, Some, None, option_map, List, map, codes, refl, ap, sym, ◌∙◌, arith}
-use Rattle.std.specs.Option.{option_map_or}
-use Rattle.scope_rules.specs.declared.types.events.Event.{Event}
-use Rattle.scope_rules.specs.declared.types.infos.ScopeInfo.{ScopeInfo}
-use Rattle.scope_rules.specs.History.{tasks, moment, forked_count}
-use Rattle.scope_rules.specs.Completions.{is_task_of}
-use Rattle.scope_rules.specs.Nests.{outermost, inner, tasks_of, label, info}
-use Rattle.scope_rules.specs.Tasks.{stage, state}
-use Rattle.serde_json.specs.Data.{null, number, unsigned, object, member, no_members}
-use Rattle.serde_json.specs.View.{items_of}
-use Rattle.serde_json.specs.Written.{compact_text}
-use Rattle.scope_log.specs.Folding.{Retirable, unretired, retired, NamesNone}
-use Rattle.scope_log.proofs.Past.{IsScope, IsTask, greater}
-use Rattle.scope_log.proofs.Numbered.{same_moment}
-use Rattle.scope_log.proofs.Ranges.{filter_listed}
-use Rattle.scope_log.proofs.Staged.{same_stage, same_state, same_tasks_of}
-use Rattle.scope_log.proofs.Displayed.{same_outermost, same_inner, same_label, same_info, outermost_new, inner_new}
-use Rattle.scope_rules.specs.Replies.{Realm}
-use Rattle.scope_script.proofs.Retiring.{leaves_alike}
-use Rattle.tree_dump.specs.Objects.{scope_object, task_object}
-use Rattle.tree_dump.specs.Tree.{task_told, task_shown, tasks_shown, scope_shown, nested, levels, dump_data, dump_text}
-use Rattle.tree_dump.specs.Retiring.{DumpStays}
+use Rattle.std.proofs.Common.{ℕ, ◌+◌, ◌∙◌, ◌≡◌, List, None, Option, Some, ap, arith, codes, map, option_map, refl, suc, sym, zero}
+use Rattle.scope_log.proofs.Past.{IsTask}
+use Rattle.tree_dump.specs.{DumpStays, Event, NamesNone, Realm, Retirable, ScopeInfo, Tree.nested, compact_text, dump_data, dump_text, forked_count, info, inner, is_task_of, items_of, label, levels, member, moment, no_members}
+use Rattle.tree_dump.specs.{null, number, object, option_map_or, outermost, retired, scope_object, scope_shown, stage, state, task_object, task_shown, task_told, tasks, tasks_of, tasks_shown, unretired, unsigned}
+use Rattle.tree_dump.proofs.Lemmas.{IsScope, filter_listed, greater, inner_new, leaves_alike, outermost_new, same_info, same_inner, same_label, same_moment, same_outermost, same_stage, same_state, same_tasks_of}
 
 module _ (r : Retirable) (es : List Event) (none : NamesNone r es) where
   -- a scope that lies somewhere was not let go

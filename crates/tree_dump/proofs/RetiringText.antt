@@ -1,32 +1,12 @@
 -- The text of the tree behind a retirement is that without it.
-use Rattle.std.proofs.Common.{◌≡◌, ℕ, zero, suc, ◌+◌, ◌-◌, Bool, true, false, cond, nat_lt, slice_get, Option, Some, None, List, [], ◌∷◌, ◌++◌, map, refl, ap, ap₂, sym, ◌∙◌, subst, arith}
-use Rattle.std.specs.List.{flat_map}
-use Rattle.std.specs.Option.{option_and_then, option_map_or}
-use Rattle.scope_rules.specs.declared.types.capacity.TheConstants.{LEVEL_LIMIT}
-use Rattle.scope_rules.specs.declared.types.events.Event.{Event}
-use Rattle.scope_rules.specs.declared.types.infos.ScopeInfo.{ScopeInfo}
-use Rattle.scope_rules.specs.History.{History, tasks, forked_count}
-use Rattle.scope_rules.specs.Completions.{is_task_of}
-use Rattle.scope_rules.specs.Nests.{outermost, inner, tasks_of, info, label}
-use Rattle.scope_rules.specs.Replies.{Realm}
-use Rattle.scope_log.specs.Folding.{Retirable, unretired, retired, NamesNone}
-use Rattle.scope_log.proofs.Past.{IsScope, IsTask, greater}
-use Rattle.scope_log.proofs.Numbered.{same_moment}
-use Rattle.scope_log.proofs.Ranges.{filter_listed}
-use Rattle.scope_log.proofs.Staged.{same_stage, same_state, same_tasks_of, same_counts}
-use Rattle.scope_log.proofs.Displayed.{same_outermost, same_inner, same_label, same_info, outermost_new, inner_new}
-use Rattle.scope_script.proofs.Retiring.{leaves_alike}
-use Rattle.tree_dump.specs.Ages.{for_text, late_by, late_text, no_clock, reading_in, scope_age, since, task_age}
-use Rattle.tree_dump.specs.Ages as ages
-use Rattle.scope_rules.specs.declared.types.answers.Stage.{Stage}
-use Rattle.scope_rules.specs.declared.types.answers.Stage.TheVariants.{Never, Waiting, Running, Finished}
-use Rattle.scope_rules.specs.declared.types.values.Label.{Label}
-use Rattle.scope_rules.specs.Tasks.{counts, stage, state}
-use Rattle.tree_dump.specs.TextLines.{moment_line, scope_text, task_text}
-use Rattle.tree_dump.specs.TextTree.{line, task_line, task_lines, tasks_lines, scope_lines, nested, aged_scope, open_text, scope_line, task_ages, tree_by, tree_text}
-use Rattle.tree_dump.specs.Waits.{found_wait, task_wait, task_waits}
-use Rattle.tree_dump.specs.RetiringText.{TreeStays}
+use Rattle.std.proofs.Common.{[], ℕ, ◌++◌, ◌+◌, ◌-◌, ◌∙◌, ◌∷◌, ◌≡◌, Bool, List, None, Option, Some, ap, ap₂, arith, cond, false, map, nat_lt, refl, slice_get, subst, suc, sym, true, zero}
+use Rattle.scope_log.proofs.Past.{IsTask}
+use Rattle.tree_dump.specs.{Event, Finished, History, LEVEL_LIMIT, Label, NamesNone, Never, Realm, Retirable, Running, ScopeInfo, Stage, TextTree.nested, TextTree.open_text, TreeStays, Waiting, aged_scope, counts, flat_map}
+use Rattle.tree_dump.specs.{for_text, forked_count, found_wait, info, inner, is_task_of, label, late_by, late_text, line, moment_line, no_clock, option_and_then, option_map_or, outermost, reading_in, retired, scope_age}
+use Rattle.tree_dump.specs.{scope_line, scope_lines, scope_text, since, stage, state, task_age, task_ages, task_line, task_lines, task_text, task_wait, task_waits, tasks, tasks_lines, tasks_of, tree_by, tree_text, unretired}
+use Rattle.tree_dump.proofs.Lemmas.{IsScope, filter_listed, greater, inner_new, leaves_alike, outermost_new, same_counts, same_info, same_inner, same_label, same_moment, same_outermost, same_stage, same_state, same_tasks_of}
 use Rattle.tree_dump.proofs.Walked.{info_scope}
+use Rattle.tree_dump.specs.Ages as ages
 
 flat_same : (f g : ℕ → List ℕ) (ks : List ℕ) → map f ks ≡ map g ks → flat_map f ks ≡ flat_map g ks
 flat_same f g [] e = refl

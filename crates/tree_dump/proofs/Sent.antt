@@ -1,27 +1,9 @@
 -- How an object's members and a list's items follow one another, and how many tasks a scope has.
-use Rattle.std.proofs.Common.{◌≡◌, ℕ, suc, ◌+◌, ◌≤◌, ◌&&◌, Bool, true, false, cond, List, [], ◌∷◌, map, length, drop, Option, Some, None, option_map, slice_get, count_by, codes, refl, sym, ap, ◌∙◌, subst, arith}
-use Rattle.std.proofs.lemmas.List.{drop_more, drop_all}
-use Rattle.std.proofs.lemmas.List.Sums.{sum_by-cons, length-filter}
-use Rattle.std.proofs.lemmas.Option.{slice_get_within, get_or_from_slice_get}
-use Rattle.serde.specs.Event.{Log, Logs, map_begins, map_ends, seq_ends}
-use Rattle.serde_json.specs.Data.{Data, Items, Members, member, no_members, object, array, boolean, number, string, unsigned}
-use Rattle.serde_json.specs.View.{items_of}
-use Rattle.serde_json.specs.Events.{SendsValue, SendsItems, SendsMembers, items_len, members_len}
-use Rattle.scope_rules.specs.declared.types.answers.Stage.{Stage}
-use Rattle.scope_rules.specs.declared.types.answers.Stage.TheVariants.{Never, Waiting, Running, Finished}
-use Rattle.scope_rules.specs.declared.types.infos.ScopeInfo.{ScopeInfo}
-use Rattle.scope_rules.specs.Completions.{is_task_of}
-use Rattle.scope_rules.specs.History.{History, task_numbers}
-use Rattle.scope_rules.specs.Nests.{tasks_of}
-use Rattle.scope_rules.specs.Tasks.{stage, is_at, is_stage, counts}
-use Rattle.scope_rules.specs.Names.{text_of}
-use Rattle.scope_rules.specs.Texts.{stage_word, state_word}
-use Rattle.scope_log.specs.LogText.{joiner_text}
-use Rattle.tree_dump.specs.Objects.{number_or_null, with_more, with_since, cause_or_null, result_data, scope_object, task_object}
-use Rattle.tree_dump.specs.Words.{expiry_word, scope_stage_word}
-use Rattle.tree_dump.specs.declared.ages.TaskTimes.{TaskTimes}
-use Rattle.tree_dump.specs.declared.told.TaskTold.{TaskTold}
-use Rattle.tree_dump.specs.Sent.{SendsMember, SendsMore, SendsSince, scope_members, task_members}
+use Rattle.std.proofs.Common.{[], ℕ, ◌&&◌, ◌+◌, ◌∙◌, ◌∷◌, ◌≡◌, ◌≤◌, Bool, List, None, Option, Some, ap, arith, codes, cond, count_by, drop, false, length, map, option_map, refl, slice_get, subst, suc, sym, true}
+use Rattle.tree_dump.specs.{Data, Finished, History, Items, Log, Logs, Members, Never, Running, ScopeInfo, SendsItems, SendsMember, SendsMembers, SendsMore, SendsSince, SendsValue, Stage, TaskTimes, TaskTold, Waiting, array}
+use Rattle.tree_dump.specs.{boolean, cause_or_null, counts, expiry_word, is_at, is_stage, is_task_of, items_len, items_of, joiner_text, map_begins, map_ends, member, members_len, no_members, number, number_or_null, object}
+use Rattle.tree_dump.specs.{result_data, scope_members, scope_object, scope_stage_word, seq_ends, stage, stage_word, state_word, string, task_members, task_numbers, task_object, tasks_of, text_of, unsigned, with_more, with_since}
+use Rattle.tree_dump.proofs.Lemmas.{drop_all, drop_more, get_or_from_slice_get, length-filter, slice_get_within, sum_by-cons}
 
 -- ---- members and items
 

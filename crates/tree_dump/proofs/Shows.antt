@@ -1,36 +1,11 @@
 -- Each scope that is not closed lies inside an unclosed one, or is main's outermost: so the walk comes to it.
-use Rattle.std.proofs.Common.{◌≡◌, ℕ, zero, suc, ◌+◌, ◌<◌, ◌≤◌, ◌⊎◌, ◌==◌, Bool, true, false, cond, Option, Some, None, List, [], ◌∷◌, ◌++◌, slice_get, option_map, inl, inr, refl, ap, sym, ◌∙◌, arith}
-use Rattle.std.proofs.lemmas.Bool.{cases_lt}
-use Rattle.std.proofs.lemmas.List.{append_assoc, append-nil}
-use Rattle.std.proofs.lemmas.List.FromFn.{get_or-range_with_len, length-range_with_len}
-use Rattle.std.proofs.lemmas.Option.{slice_get-get_or}
-use Rattle.std.specs.List.{filter, flat_map}
-use Rattle.std.specs.Option.{option_and_then, option_map_or, option_or}
-use Rattle.scope_rules.specs.declared.types.capacity.Limits.{Limits}
-use Rattle.scope_rules.specs.declared.types.answers.Stage.TheVariants.{Never}
-use Rattle.scope_rules.specs.declared.types.infos.ScopeInfo.{ScopeInfo}
-use Rattle.scope_rules.specs.declared.types.records.Forking.{Forking}
-use Rattle.scope_rules.specs.declared.types.records.Opening.{Opening}
-use Rattle.scope_rules.specs.Completions.{is_task_of}
-use Rattle.scope_rules.specs.History.{History, before, opening, forking, moment, forked_count, task_numbers}
-use Rattle.scope_rules.specs.Legal.{Legal}
-use Rattle.scope_rules.specs.Nests.{outermost, inner, next_unclosed, tasks_of, info, info_of}
-use Rattle.scope_rules.specs.Scopes.{closed, innermost, forked_in, surrounding, around, parent, level}
-use Rattle.scope_rules.specs.Tasks.{stage, stage_of, is_running}
-use Rattle.scope_rules.proofs.ClosingScopes.{inner_closed}
-use Rattle.scope_rules.proofs.Earlier.{opening_since, forking_since, scope_given, unclosed_before}
-use Rattle.scope_rules.proofs.Forkings.{opening_row, forked_after}
-use Rattle.scope_rules.proofs.InnermostEnds.{opened_first}
-use Rattle.scope_rules.proofs.Innermosts.{HasUnclosed, innermost_none, innermost_unclosed, innermost_later}
-use Rattle.scope_rules.proofs.Levels.{level_by_parent}
-use Rattle.scope_rules.proofs.Nesting.{IsOpened, legal_before, opened_before, surrounding_opened}
-use Rattle.scope_rules.proofs.Parents.{parent_smaller}
-use Rattle.scope_rows.proofs.FirstUnclosed.{next_is, outermost_is}
-use Rattle.scope_rows.proofs.LevelLimit.{level_within}
-use Rattle.tree_dump.specs.Ages.{Clock}
-use Rattle.tree_dump.specs.Shows.{HasPart, TreeShowsEach}
-use Rattle.tree_dump.specs.TextLines.{moment_line}
-use Rattle.tree_dump.specs.TextTree.{scope_line, task_line, task_lines, tasks_lines, scope_lines, nested, open_text, tree_by}
+use Rattle.std.proofs.Common.{[], ℕ, ◌++◌, ◌+◌, ◌<◌, ◌==◌, ◌∙◌, ◌∷◌, ◌≡◌, ◌≤◌, ◌⊎◌, Bool, List, None, Option, Some, ap, arith, cond, false, inl, inr, option_map, refl, slice_get, suc, sym, true, zero}
+use Rattle.tree_dump.specs.{Clock, Forking, HasPart, History, Legal, Limits, Never, Opening, ScopeInfo, TextTree.nested, TextTree.open_text, TreeShowsEach, around, before, closed, filter, flat_map, forked_count, forked_in}
+use Rattle.tree_dump.specs.{forking, info, info_of, inner, innermost, is_running, is_task_of, level, moment, moment_line, next_unclosed, opening, option_and_then, option_map_or, option_or, outermost, parent, scope_line}
+use Rattle.tree_dump.specs.{scope_lines, stage, stage_of, surrounding, task_line, task_lines, task_numbers, tasks_lines, tasks_of, tree_by}
+use Rattle.tree_dump.proofs.Lemmas.{HasUnclosed, IsOpened, append-nil, append_assoc, cases_lt, forked_after, forking_since, get_or-range_with_len, inner_closed, innermost_later, innermost_none, innermost_unclosed, legal_before}
+use Rattle.tree_dump.proofs.Lemmas.{length-range_with_len, level_by_parent, level_within, next_is, opened_before, opened_first, opening_row, opening_since, outermost_is, parent_smaller, scope_given, slice_get-get_or}
+use Rattle.tree_dump.proofs.Lemmas.{surrounding_opened, unclosed_before}
 use Rattle.tree_dump.proofs.Walked.{info_scope}
 
 -- ---- parts of texts

@@ -1,27 +1,11 @@
 -- What is waited for is shown of all scopes that are not closed and have a task that waits or runs.
-use Rattle.std.proofs.Common.{◌≡◌, ℕ, zero, suc, ◌+◌, ◌<◌, ◌≤◌, ◌&&◌, ◌||◌, nat_lt, not, Bool, true, false, cond, Option, Some, None, List, [], ◌∷◌, ◌++◌, map, slice_get, count_by, refl, ap, ap₂, sym, ◌∙◌, subst, arith, append-nil}
-use Rattle.std.proofs.lemmas.Bool.{lt-ltb}
-use Rattle.std.proofs.lemmas.List.Concat.{flat_map-append}
-use Rattle.std.specs.List.{filter, flat_map, list_any, range_with_len}
-use Rattle.std.specs.Option.{option_map_or}
-use Rattle.scope_rules.specs.declared.types.answers.Stage.{Stage}
-use Rattle.scope_rules.specs.declared.types.answers.Stage.TheVariants.{Never, Waiting, Running, Finished}
-use Rattle.scope_rules.specs.declared.types.infos.ScopeInfo.{ScopeInfo}
-use Rattle.scope_rules.specs.declared.types.records.Opening.{Opening}
-use Rattle.scope_rules.specs.Completions.{is_task_of}
-use Rattle.scope_rules.specs.History.{History, opened_count, opening, scope_numbers, scopes, task_numbers}
-use Rattle.scope_rules.specs.Nests.{info, info_of, tasks_of}
-use Rattle.scope_rules.specs.Scopes.{closed}
-use Rattle.scope_rules.specs.Tasks.{counts, is_settled, is_unsettled, settled, stage}
-use Rattle.scope_rules.proofs.Completions.{count_by-cons}
-use Rattle.tree_dump.specs.Ages.{Clock}
-use Rattle.tree_dump.specs.ShowsAwaited.{AwaitedShows, Group, IsGroup, group_text, is_awaiting}
-use Rattle.tree_dump.specs.TextTree.{scope_line, task_line}
-use Rattle.tree_dump.specs.TreeParts.{awaited_lines, awaited_scope, awaited_task, waits, with_sums}
-use Rattle.tree_dump.proofs.Awaits.{waits_or_runs}
-use Rattle.tree_dump.proofs.Once.{info_is}
-use Rattle.tree_dump.proofs.Opened.{opened_all}
-use Rattle.tree_dump.proofs.Walked.{info_scope}
+use Rattle.std.proofs.Common.{[], ℕ, ◌&&◌, ◌++◌, ◌+◌, ◌<◌, ◌||◌, ◌∙◌, ◌∷◌, ◌≡◌, ◌≤◌, Bool, List, None, Option, Some, ap, append-nil, ap₂, arith, cond, count_by, false, map, nat_lt, not, refl, slice_get, subst, suc, sym, true}
+use Rattle.std.proofs.Common.{zero}
+use Rattle.tree_dump.specs.{AwaitedShows, Clock, Finished, Group, History, IsGroup, Never, Opening, Running, ScopeInfo, Stage, Waiting, awaited_lines, awaited_scope, awaited_task, closed, counts, filter, flat_map, group_text}
+use Rattle.tree_dump.specs.{info, info_of, is_awaiting, is_settled, is_task_of, is_unsettled, list_any, opened_count, opening, option_map_or, range_with_len, scope_line, scope_numbers, scopes, settled, stage, task_line}
+use Rattle.tree_dump.specs.{task_numbers, tasks_of, waits, with_sums}
+use Rattle.tree_dump.proofs.Lemmas.{count_by-cons, flat_map-append, lt-ltb}
+use Rattle.tree_dump.proofs.{Awaits.waits_or_runs, Once.info_is, Opened.opened_all, Walked.info_scope}
 
 -- ---- the tasks of one scope
 

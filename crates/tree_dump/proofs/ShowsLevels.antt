@@ -1,33 +1,11 @@
 -- Some levels of a tree are the whole without what lies deeper.
-use Rattle.std.proofs.Common.{◌≡◌, ◌⊎◌, inl, inr, ℕ, zero, suc, ◌+◌, ◌-◌, ◌<◌, ◌≤◌, ◌&&◌, min, is_some, nat_lt, not, Bool, true, false, cond, Option, Some, None, List, [], ◌∷◌, ◌++◌, codes, refl, ap, ap₂, sym, ◌∙◌, subst, arith}
-use Rattle.std.proofs.Math.Nat.{le-min, min-eq_left, min-le_left, min-le_right}
-use Rattle.std.proofs.lemmas.Bool.{cases_lt, ltb-false, ltb-true}
-use Rattle.std.proofs.lemmas.List.Elements.{filter-append}
-use Rattle.std.specs.Fmt.{decimal}
-use Rattle.std.specs.List.{filter, flat_map}
-use Rattle.std.specs.Option.{option_map_or}
-use Rattle.scope_rules.specs.declared.types.capacity.Limits.{Limits}
-use Rattle.scope_rules.specs.declared.types.capacity.TheConstants.{LEVEL_LIMIT}
-use Rattle.scope_rules.specs.declared.types.infos.ScopeInfo.{ScopeInfo}
-use Rattle.scope_rules.specs.declared.types.records.Forking.{Forking}
-use Rattle.scope_rules.specs.declared.types.records.Opening.{Opening}
-use Rattle.scope_rules.specs.Completions.{is_task_of}
-use Rattle.scope_rules.specs.History.{History, opening, task_numbers}
-use Rattle.scope_rules.specs.Legal.{Legal}
-use Rattle.scope_rules.specs.Nests.{info, info_of, inner, outermost, tasks_of}
-use Rattle.scope_rules.specs.Scopes.{closed, level, parent}
-use Rattle.scope_rules.proofs.Forkings.{IsTask, task_there}
-use Rattle.scope_rules.proofs.Nesting.{forked_opened}
-use Rattle.scope_rules.proofs.Levels.{level_by_parent}
-use Rattle.scope_rows.proofs.FirstUnclosed.{outermost_is}
-use Rattle.tree_dump.specs.Ages.{Clock}
-use Rattle.tree_dump.specs.Once.{Line, OfScope, OfTask, line_text}
-use Rattle.tree_dump.specs.ShowsLevels.{LevelsShow, RootLevelsShow, ShowsLevels, is_within}
-use Rattle.tree_dump.specs.TextTree.{nested}
-use Rattle.tree_dump.specs.TreeParts.{levels_from, with_sums}
-use Rattle.tree_dump.proofs.Insides.{inner_parent, is_next, outermost_parent}
-use Rattle.tree_dump.proofs.Lying.{lying}
-use Rattle.tree_dump.proofs.Once.{as_its_scope, info_is, lines_at, lines_written, no_info, of_scope, of_task, tree_is, tree_lines}
+use Rattle.std.proofs.Common.{[], ℕ, ◌&&◌, ◌++◌, ◌+◌, ◌-◌, ◌<◌, ◌∙◌, ◌∷◌, ◌≡◌, ◌≤◌, ◌⊎◌, Bool, List, None, Option, Some, ap, ap₂, arith, codes, cond, false, inl, inr, is_some, min, nat_lt, not, refl, subst, suc, sym, true, zero}
+use Rattle.scope_rules.proofs.Forkings.{IsTask}
+use Rattle.tree_dump.specs.{Clock, Forking, History, LEVEL_LIMIT, Legal, LevelsShow, Limits, Line, OfScope, OfTask, Opening, RootLevelsShow, ScopeInfo, ShowsLevels.ShowsLevels, TextTree.nested, closed, decimal, filter, flat_map}
+use Rattle.tree_dump.specs.{info, info_of, inner, is_task_of, is_within, level, levels_from, line_text, opening, option_map_or, outermost, parent, task_numbers, tasks_of, with_sums}
+use Rattle.tree_dump.proofs.Lemmas.{cases_lt, filter-append, forked_opened, le-min, level_by_parent, ltb-false, ltb-true, min-eq_left, min-le_left, min-le_right, outermost_is, task_there}
+use Rattle.tree_dump.proofs.{Insides.inner_parent, Insides.is_next, Insides.outermost_parent, Lying.lying, Once.as_its_scope, Once.info_is, Once.lines_at, Once.lines_written, Once.no_info, Once.of_scope, Once.of_task}
+use Rattle.tree_dump.proofs.{Once.tree_is, Once.tree_lines}
 
 -- the smaller of two
 record IsLeast (r a b : ℕ) : Type 0 where

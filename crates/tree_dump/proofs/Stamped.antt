@@ -1,7 +1,7 @@
 -- The times of events, one event more.
-use Rattle.std.proofs.Common.{◌≡◌, ℕ, ◌+◌, List, [], ◌∷◌, ◌++◌, refl, arith}
-use Rattle.std.proofs.lemmas.List.FromFn.{map-range_with_len_more}
-use Rattle.tree_dump.specs.Kept.{stamp_at, stamps_to}
+use Rattle.std.proofs.Common.{[], ℕ, ◌++◌, ◌+◌, ◌∷◌, ◌≡◌, List, arith, refl}
+use Rattle.tree_dump.specs.{stamp_at, stamps_to}
+use Rattle.tree_dump.proofs.Lemmas.{map-range_with_len_more}
 
 pub stamps_none : (times : List ℕ) (now : ℕ) → stamps_to times now 0 ≡ []
 unfolding stamps_to

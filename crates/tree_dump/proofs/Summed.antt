@@ -1,26 +1,9 @@
 -- The sums count the scopes that are not closed, and their tasks at each stage.
-use Rattle.std.proofs.Common.{◌≡◌, ℕ, zero, suc, ◌+◌, ◌*◌, ◌<◌, ◌≤◌, ◌&&◌, min, not, Bool, true, false, cond, List, [], ◌∷◌, fold, length, count_by, refl, ap, sym, ◌∙◌, subst, arith, length-append}
-use Rattle.std.proofs.Math.Nat.{min-eq_left}
-use Rattle.std.proofs.lemmas.List.Elements.{filter-append}
-use Rattle.std.proofs.lemmas.List.FromFn.{length-range_with_len}
-use Rattle.std.proofs.lemmas.List.Sums.{count_by-le-length}
-use Rattle.std.specs.List.{filter, flat_map, range_with_len}
-use Rattle.std.specs.Option.{option_map_or}
-use Rattle.scope_rules.specs.declared.types.answers.Counts.{Counts}
-use Rattle.scope_rules.specs.declared.types.answers.Stage.{Stage}
-use Rattle.scope_rules.specs.declared.types.answers.Stage.TheVariants.{Never, Waiting, Running, Finished}
-use Rattle.scope_rules.specs.declared.types.infos.ScopeInfo.{ScopeInfo}
-use Rattle.scope_rules.specs.Completions.{is_task_of}
-use Rattle.scope_rules.specs.History.{History, forked_count, opened_count, scope_numbers, scopes, task_numbers}
-use Rattle.scope_rules.specs.Nests.{tasks_of}
-use Rattle.scope_rules.specs.Scopes.{closed}
-use Rattle.scope_rules.specs.Tasks.{counts, is_at, is_stage, stage}
-use Rattle.scope_rules.proofs.Completions.{count_by-cons}
-use Rattle.tree_dump.specs.Summed.{IsCountOf, SumsCount, tasks_at, unclosed}
-use Rattle.tree_dump.specs.TreeParts.{no_sums, with_counts, with_scope}
-use Rattle.tree_dump.specs.declared.parts.Sums.{Sums}
-use Rattle.tree_dump.proofs.Once.{info_is}
-use Rattle.tree_dump.proofs.Opened.{few, opened_all}
+use Rattle.std.proofs.Common.{[], ℕ, ◌&&◌, ◌*◌, ◌+◌, ◌<◌, ◌∙◌, ◌∷◌, ◌≡◌, ◌≤◌, Bool, List, ap, arith, cond, count_by, false, fold, length, length-append, min, not, refl, subst, suc, sym, true, zero}
+use Rattle.tree_dump.specs.{Counts, Finished, History, IsCountOf, Never, Running, ScopeInfo, Stage, Sums, SumsCount, Waiting, closed, counts, filter, flat_map, forked_count, is_at, is_stage, is_task_of, no_sums, opened_count}
+use Rattle.tree_dump.specs.{option_map_or, range_with_len, scope_numbers, scopes, stage, task_numbers, tasks_at, tasks_of, unclosed, with_counts, with_scope}
+use Rattle.tree_dump.proofs.Lemmas.{count_by-cons, count_by-le-length, filter-append, length-range_with_len, min-eq_left}
+use Rattle.tree_dump.proofs.{Once.info_is, Opened.few, Opened.opened_all}
 
 -- the tasks at a stage, of sums and of one scope
 abbrev summed : Stage → Sums → ℕ

@@ -1,17 +1,8 @@
 -- What a walk has written, and what it ends with.
-use Rattle.std.proofs.Common.{inl, inr, ◌≡◌, ℕ, zero, suc, ◌+◌, ◌-◌, ◌<◌, ◌≤◌, List, [], ◌++◌, Option, None, Some, length, take, slice_get, refl, ap, sym, ◌∙◌, arith}
-use Rattle.std.proofs.lemmas.List.{append_assoc, append-nil, flat_map_more}
-use Rattle.std.proofs.lemmas.List.Sums.{count_by-le-length, length-filter}
-use Rattle.std.proofs.lemmas.List.FromFn.{length-range_with_len}
-use Rattle.std.proofs.lemmas.Option.{slice_get_cases}
-use Rattle.std.specs.Option.{option_and_then, option_map_or}
-use Rattle.scope_rules.specs.declared.types.infos.ScopeInfo.{ScopeInfo}
-use Rattle.scope_rules.specs.Completions.{is_task_of}
-use Rattle.scope_rules.specs.History.{History, forked_count, tasks, task_numbers}
-use Rattle.scope_rules.specs.Nests.{outermost, inner, tasks_of, info}
-use Rattle.scope_rules.proofs.Prefixes.{take_at, take_whole}
-use Rattle.tree_dump.specs.Ages.{Clock}
-use Rattle.tree_dump.specs.TextTree.{task_line, task_lines, tasks_lines, scope_line, scope_lines, nested}
+use Rattle.std.proofs.Common.{[], ℕ, ◌++◌, ◌+◌, ◌-◌, ◌<◌, ◌∙◌, ◌≡◌, ◌≤◌, List, None, Option, Some, ap, arith, inl, inr, length, refl, slice_get, suc, sym, take, zero}
+use Rattle.tree_dump.specs.{Clock, History, ScopeInfo, TextTree.nested, forked_count, info, inner, is_task_of, option_and_then, option_map_or, outermost, scope_line, scope_lines, task_line, task_lines, task_numbers, tasks}
+use Rattle.tree_dump.specs.{tasks_lines, tasks_of}
+use Rattle.tree_dump.proofs.Lemmas.{append-nil, append_assoc, count_by-le-length, flat_map_more, length-filter, length-range_with_len, slice_get_cases, take_at, take_whole}
 
 -- ---- where nothing stands
 

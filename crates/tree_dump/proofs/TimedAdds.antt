@@ -1,18 +1,7 @@
 -- What the second format adds taken away is the first.
-use Rattle.std.proofs.Common.{◌≡◌, ℕ, zero, suc, List, [], ◌∷◌, map, Option, Some, None, codes, refl, ap}
-use Rattle.std.specs.Option.{option_map_or}
-use Rattle.scope_rules.specs.declared.types.answers.Cause.{Cause}
-use Rattle.scope_rules.specs.declared.types.infos.ScopeInfo.{ScopeInfo}
-use Rattle.scope_rules.specs.History.{History, moment}
-use Rattle.scope_rules.specs.Nests.{info, inner, outermost, tasks_of}
-use Rattle.serde_json.specs.Data.{Data, Items, null, number, unsigned, object, member, no_members}
-use Rattle.serde_json.specs.View.{items_of}
-use Rattle.tree_dump.specs.Ages.{Clock, scope_since, task_times}
-use Rattle.tree_dump.specs.Objects.{cause_or_null, number_or_null, scope_object, task_object}
-use Rattle.tree_dump.specs.TimedAdds.{TimedAdds, is_added, items_without, without}
-use Rattle.tree_dump.specs.Tree.{levels, nested, scope_shown, task_shown, task_told, tasks_shown}
-use Rattle.tree_dump.specs.declared.ages.TaskTimes.{TaskTimes}
-use Rattle.tree_dump.specs.declared.told.TaskTold.{TaskTold}
+use Rattle.std.proofs.Common.{[], ℕ, ◌∷◌, ◌≡◌, List, None, Option, Some, ap, codes, map, refl, suc, zero}
+use Rattle.tree_dump.specs.{Cause, Clock, Data, History, Items, ScopeInfo, TaskTimes, TaskTold, TimedAdds.TimedAdds, Tree.nested, cause_or_null, info, inner, is_added, items_of, items_without, levels, member, moment, no_members}
+use Rattle.tree_dump.specs.{null, number, number_or_null, object, option_map_or, outermost, scope_object, scope_shown, scope_since, task_object, task_shown, task_times, task_told, tasks_of, tasks_shown, unsigned, without}
 
 number_stays : (n : Option ℕ) → without is_added (number_or_null n) ≡ number_or_null n
 number_stays None = refl

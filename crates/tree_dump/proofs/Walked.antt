@@ -1,14 +1,6 @@
 -- What the walk finds at a place.
-use Rattle.std.proofs.Common.{◌≡◌, ℕ, zero, suc, Option, Some, None, IsSome, option_map, option_and_then, refl, ap, sym, ◌∙◌, arith}
-use Rattle.std.specs.Option.{option_map_or}
-use Rattle.scope_rules.specs.declared.types.infos.ScopeInfo.{ScopeInfo}
-use Rattle.scope_rules.specs.declared.types.records.Opening.{Opening}
-use Rattle.scope_rules.specs.History.{History, opening}
-use Rattle.scope_rules.specs.Nests.{inner, info, info_of}
-use Rattle.serde_json.specs.Data.{Data, null}
-use Rattle.tree_dump.specs.Ages.{Clock, scope_since}
-use Rattle.tree_dump.specs.Objects.{scope_object}
-use Rattle.tree_dump.specs.Tree.{nested, scope_shown, tasks_shown}
+use Rattle.std.proofs.Common.{ℕ, ◌∙◌, ◌≡◌, IsSome, None, Option, Some, ap, arith, option_and_then, option_map, refl, suc, sym, zero}
+use Rattle.tree_dump.specs.{Clock, Data, History, Opening, ScopeInfo, Tree.nested, info, info_of, inner, null, opening, option_map_or, scope_object, scope_shown, scope_since, tasks_shown}
 
 pub info_scope : (h : History) (s : ℕ) (i : ScopeInfo) → info h s ≡ Some i → i.scope ≡ s
 unfolding info

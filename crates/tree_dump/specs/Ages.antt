@@ -1,15 +1,6 @@
 -- How long tasks run and scopes are open, by a clock.
-use Rattle.std.specs.Prelude.{ℕ, ◌-◌, ◌/◌, ◌%◌, ◌&&◌, nat_le, nat_lt, not, is_none, Bool, true, false, Option, None, Some, option_map, List, [], ◌++◌, slice_get, codes, if◌then◌else◌}
-use Rattle.std.specs.Option.{option_and_then}
-use Rattle.std.specs.Fmt.{decimal}
-use Rattle.scope_rules.specs.declared.types.answers.Stage.{Stage}
-use Rattle.scope_rules.specs.declared.types.answers.Stage.TheVariants.{Waiting, Running, Finished}
-use Rattle.scope_rules.specs.declared.types.infos.ScopeInfo.{ScopeInfo}
-use Rattle.scope_rules.specs.History.{History}
-use Rattle.scope_rules.specs.Tasks.{is_finished}
-use Rattle.tree_dump.specs.declared.ages.Ages.{Ages}
-use Rattle.tree_dump.specs.declared.ages.TaskTimes.{TaskTimes}
-use Rattle.tree_dump.specs.declared.waits.CurrentWait.{CurrentWait}
+use Rattle.std.specs.Prelude.{[], ℕ, ◌%◌, ◌&&◌, ◌++◌, ◌-◌, ◌/◌, Bool, List, None, Option, Some, codes, false, if◌then◌else◌, is_none, nat_le, nat_lt, not, option_map, slice_get, true}
+use Rattle.tree_dump.specs.Terms.{Ages, CurrentWait, Finished, History, Running, ScopeInfo, Stage, TaskTimes, Waiting, decimal, is_finished, option_and_then}
 
 -- the last reading of a clock, if it was read, and the readings as tasks were forked, started and ended and as scopes were opened,
 -- by number since the base; and in which calls main and these tasks wait, if they do

@@ -1,9 +1,6 @@
 -- The clock of a tree, by the readings of its events.
-use Rattle.std.specs.Prelude.{ℕ, ◌+◌, min, None, Some, List, [], ◌∷◌, map, length, get_or}
-use Rattle.std.specs.List.{range_with_len}
-use Rattle.run_times.specs.Stamps.{end_times, fork_times, open_times, start_times}
-use Rattle.scope_rules.specs.History.{History}
-use Rattle.tree_dump.specs.declared.kept.KeptAges.{KeptAges}
+use Rattle.std.specs.Prelude.{[], ℕ, ◌+◌, ◌∷◌, List, None, Some, get_or, length, map, min}
+use Rattle.tree_dump.specs.Terms.{History, KeptAges, end_times, fork_times, open_times, range_with_len, start_times}
 use Rattle.tree_dump.specs.Ages.{Clock, no_clock}
 
 abbrev pub clock_kept : KeptAges → Clock

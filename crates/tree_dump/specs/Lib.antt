@@ -18,3 +18,28 @@ pub mod TimedAdds
 pub mod ShowsAwaited
 pub mod Summed
 pub mod ShowsLevels
+pub mod Terms
+unfoldable pub use Terms.*
+pub use Ages.{Clock, aged_text, clock_of, due_in, for_text, late_by, late_text, no_clock, reading_in, runs_or_ran, scope_age, scope_late, scope_since, since, task_age, task_reading, task_times}
+unfoldable pub use Ages.{duration_text}
+pub use Awaits.*
+unfoldable pub use Kept.*
+unfoldable pub use Objects.*
+pub use Once.*
+pub use Retiring.*
+pub use RetiringText.*
+pub use Sent.*
+pub use Shows.*
+pub use ShowsAwaited.*
+pub use ShowsLevels.*
+pub use Summed.*
+unfoldable pub use TextLines.*
+pub use TextTree.{line, scope_line, scope_lines, task_ages, task_lines, tree_text}
+unfoldable pub use TextTree.{aged_scope, task_line, tasks_lines, tree_by}
+unfoldable pub use Timed.*
+pub use TimedAdds.*
+pub use Tree.{dump_data, levels, scope_shown, task_shown, tasks_shown}
+unfoldable pub use Tree.{dump_text, task_told}
+unfoldable pub use TreeParts.*
+unfoldable pub use Waits.*
+pub use Words.*

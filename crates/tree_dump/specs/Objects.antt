@@ -1,17 +1,7 @@
 -- The objects of a dump, member by member, in the order of their keys.
-use Rattle.std.specs.Prelude.{ℕ, List, Option, None, Some, option_map, codes}
-use Rattle.scope_rules.specs.Names.{text_of}
-use Rattle.scope_rules.specs.Texts.{fault_text, kind_word, stage_word, state_word}
-use Rattle.scope_rules.specs.declared.types.answers.Cause.{Cause}
-use Rattle.scope_rules.specs.declared.types.answers.State.{State}
-use Rattle.scope_rules.specs.declared.types.answers.State.TheVariants.{Unavailable, Success, Failed}
-use Rattle.scope_rules.specs.declared.types.infos.ScopeInfo.{ScopeInfo}
-use Rattle.scope_rules.specs.declared.types.values.Value.TheVariants.{Num, Text}
-use Rattle.scope_log.specs.LogText.{joiner_text}
-use Rattle.serde_json.specs.Data.{Data, null, boolean, number, unsigned, negative, string, array, object, Items, Members, member, no_members}
+use Rattle.tree_dump.specs.Terms.{ℕ, Cause, Data, Failed, Items, List, Members, None, Num, Option, ScopeInfo, Some, State, Success, TaskTimes, TaskTold, Text, Unavailable, array, boolean, codes, fault_text, joiner_text, kind_word}
+use Rattle.tree_dump.specs.Terms.{member, negative, no_members, null, number, object, option_map, stage_word, state_word, string, text_of, unsigned}
 use Rattle.tree_dump.specs.Words.{expiry_word, scope_stage_word}
-use Rattle.tree_dump.specs.declared.ages.TaskTimes.{TaskTimes}
-use Rattle.tree_dump.specs.declared.told.TaskTold.{TaskTold}
 
 -- a moment, if there is one
 abbrev pub number_or_null : Option ℕ → Data

@@ -1,15 +1,7 @@
 -- That the tree shows each scope and each task once.
-use Rattle.std.specs.Prelude.{◌≡◌, ℕ, ◌==◌, Bool, false, cond, Some, List, ◌++◌, count_by}
-use Rattle.std.specs.List.{flat_map}
-use Rattle.scope_rules.specs.declared.types.capacity.Limits.{Limits}
-use Rattle.scope_rules.specs.declared.types.infos.ScopeInfo.{ScopeInfo}
-use Rattle.scope_rules.specs.declared.types.records.Forking.{Forking}
-use Rattle.scope_rules.specs.declared.types.records.Opening.{Opening}
-use Rattle.scope_rules.specs.History.{History, forking, opening}
-use Rattle.scope_rules.specs.Legal.{Legal}
-use Rattle.scope_rules.specs.Scopes.{closed}
-use Rattle.tree_dump.specs.Ages.{Clock}
-use Rattle.tree_dump.specs.TextTree.{scope_line, task_line, tree_by}
+use Rattle.std.specs.Prelude.{ℕ, ◌++◌, ◌==◌, ◌≡◌, Bool, List, Some, cond, count_by, false}
+use Rattle.tree_dump.specs.Terms.{Forking, History, Legal, Limits, Opening, ScopeInfo, closed, flat_map, forking, opening}
+use Rattle.tree_dump.specs.{Ages.Clock, TextTree.scope_line, TextTree.task_line, TextTree.tree_by}
 
 -- a line of a tree: of a scope or of a task, so deep
 pub data Line : Type 0 where

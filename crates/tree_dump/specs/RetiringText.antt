@@ -1,9 +1,6 @@
 -- The text of what a list of commands leaves, with its retirements and without them.
 use Rattle.std.specs.Prelude.{◌≡◌, List}
-use Rattle.scope_rules.specs.declared.types.capacity.Limits.{Limits}
-use Rattle.script_words.specs.declared.commands.Command.{Command}
-use Rattle.scope_script.specs.Replying.{realm_after_all}
-use Rattle.scope_script.specs.Retiring.{without_retirements, fresh, RetiresFreely}
+use Rattle.tree_dump.specs.Terms.{Command, Limits, RetiresFreely, fresh, realm_after_all, without_retirements}
 use Rattle.tree_dump.specs.TextTree.{tree_text}
 
 -- if a list of commands without its retirements meets no limit, and no command behind an accepted

@@ -1,10 +1,6 @@
 -- What a serializer is sent for the members of an object.
-use Rattle.std.specs.Prelude.{◌≡◌, ℕ, List, Option, None, Some, option_map, codes}
-use Rattle.serde.specs.Event.{Log, Logs, field_key}
-use Rattle.serde.specs.declared.name.Case.TheVariants.{AsIs}
-use Rattle.serde_json.specs.Data.{Data}
-use Rattle.serde_json.specs.Events.{SendsValue}
-use Rattle.tree_dump.specs.declared.ages.TaskTimes.{TaskTimes}
+use Rattle.std.specs.Prelude.{ℕ, ◌≡◌, List, None, Option, Some, codes, option_map}
+use Rattle.tree_dump.specs.Terms.{AsIs, Data, Log, Logs, SendsValue, TaskTimes, field_key}
 use Rattle.tree_dump.specs.Objects.{number_or_null}
 
 -- the key, and then the value

@@ -1,13 +1,7 @@
 -- That the tree shows each scope that is not closed, with its tasks.
-use Rattle.std.specs.Prelude.{◌≡◌, ℕ, ◌+◌, List, ◌++◌, false, Some, slice_get}
-use Rattle.scope_rules.specs.declared.types.capacity.Limits.{Limits}
-use Rattle.scope_rules.specs.declared.types.infos.ScopeInfo.{ScopeInfo}
-use Rattle.scope_rules.specs.History.{History}
-use Rattle.scope_rules.specs.Legal.{Legal}
-use Rattle.scope_rules.specs.Nests.{info, tasks_of}
-use Rattle.scope_rules.specs.Scopes.{closed}
-use Rattle.tree_dump.specs.Ages.{Clock}
-use Rattle.tree_dump.specs.TextTree.{scope_line, task_line, tree_by}
+use Rattle.std.specs.Prelude.{ℕ, ◌++◌, ◌+◌, ◌≡◌, List, Some, false, slice_get}
+use Rattle.tree_dump.specs.Terms.{History, Legal, Limits, ScopeInfo, closed, info, tasks_of}
+use Rattle.tree_dump.specs.{Ages.Clock, TextTree.scope_line, TextTree.task_line, TextTree.tree_by}
 
 -- the part is somewhere in the text
 abbrev pub HasPart : List ℕ → List ℕ → Type 0

@@ -1,16 +1,7 @@
 -- What is shown of what is waited for.
-use Rattle.std.specs.Prelude.{◌≡◌, ℕ, ◌&&◌, Bool, not, Some, List, ◌++◌, map, slice_get}
-use Rattle.std.specs.List.{filter, flat_map}
-use Rattle.scope_rules.specs.declared.types.capacity.Limits.{Limits}
-use Rattle.scope_rules.specs.declared.types.infos.ScopeInfo.{ScopeInfo}
-use Rattle.scope_rules.specs.History.{History, scope_numbers, task_numbers}
-use Rattle.scope_rules.specs.Legal.{Legal}
-use Rattle.scope_rules.specs.Nests.{info}
-use Rattle.scope_rules.specs.Scopes.{closed}
-use Rattle.scope_rules.specs.Tasks.{is_unsettled, settled}
-use Rattle.tree_dump.specs.Ages.{Clock}
-use Rattle.tree_dump.specs.TextTree.{scope_line, task_line}
-use Rattle.tree_dump.specs.TreeParts.{part_text, with_sums}
+use Rattle.std.specs.Prelude.{ℕ, ◌&&◌, ◌++◌, ◌≡◌, Bool, List, Some, map, not, slice_get}
+use Rattle.tree_dump.specs.Terms.{History, Legal, Limits, ScopeInfo, closed, filter, flat_map, info, is_unsettled, scope_numbers, settled, task_numbers}
+use Rattle.tree_dump.specs.{Ages.Clock, TextTree.scope_line, TextTree.task_line, TreeParts.part_text, TreeParts.with_sums}
 use Rattle.tree_dump.specs.declared.parts.TreePart.TheVariants as part
 
 -- a scope, and tasks

@@ -1,20 +1,7 @@
 -- What is shown of some levels of a tree.
-use Rattle.std.specs.Prelude.{◌≡◌, ℕ, ◌+◌, ◌==◌, ◌&&◌, nat_lt, not, Bool, true, false, cond, Option, None, Some, List, count_by}
-use Rattle.std.specs.List.{filter, flat_map, list_any}
-use Rattle.std.specs.Option.{option_map_or}
-use Rattle.scope_rules.specs.declared.types.capacity.Limits.{Limits}
-use Rattle.scope_rules.specs.declared.types.capacity.TheConstants.{LEVEL_LIMIT}
-use Rattle.scope_rules.specs.declared.types.records.Forking.{Forking}
-use Rattle.scope_rules.specs.declared.types.records.Opening.{Opening}
-use Rattle.scope_rules.specs.Chains.{chain_by}
-use Rattle.scope_rules.specs.History.{History, forking, opening}
-use Rattle.scope_rules.specs.Legal.{Legal}
-use Rattle.scope_rules.specs.Nests.{outermost}
-use Rattle.scope_rules.specs.Scopes.{closed, level, parent}
-use Rattle.tree_dump.specs.Ages.{Clock}
-use Rattle.tree_dump.specs.Once.{IsTreeOf, Line, OfScope, OfTask, is_of_scope, is_of_task, line_text}
-use Rattle.tree_dump.specs.TextTree.{nested}
-use Rattle.tree_dump.specs.TreeParts.{part_text, stands, with_sums}
+use Rattle.std.specs.Prelude.{ℕ, ◌&&◌, ◌+◌, ◌==◌, ◌≡◌, Bool, List, None, Option, Some, cond, count_by, false, nat_lt, not, true}
+use Rattle.tree_dump.specs.Terms.{Forking, History, LEVEL_LIMIT, Legal, Limits, Opening, chain_by, closed, filter, flat_map, forking, level, list_any, opening, option_map_or, outermost, parent}
+use Rattle.tree_dump.specs.{Ages.Clock, Once.IsTreeOf, Once.Line, Once.OfScope, Once.OfTask, Once.is_of_scope, Once.is_of_task, Once.line_text, TextTree.nested, TreeParts.part_text, TreeParts.stands, TreeParts.with_sums}
 use Rattle.tree_dump.specs.declared.parts.TreePart.TheVariants as part
 
 -- the line is of a scope whose level is below this one, or of a task of such a scope

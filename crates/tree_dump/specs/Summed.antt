@@ -1,15 +1,6 @@
 -- What the sums of a part count.
-use Rattle.std.specs.Prelude.{◌≡◌, ℕ, Bool, not, List, ◌++◌, codes, length}
-use Rattle.std.specs.Fmt.{decimal}
-use Rattle.std.specs.List.{filter, flat_map}
-use Rattle.scope_rules.specs.declared.types.answers.Stage.{Stage}
-use Rattle.scope_rules.specs.declared.types.answers.Stage.TheVariants.{Never, Waiting, Running, Finished}
-use Rattle.scope_rules.specs.declared.types.capacity.Limits.{Limits}
-use Rattle.scope_rules.specs.History.{History, scope_numbers}
-use Rattle.scope_rules.specs.Legal.{Legal}
-use Rattle.scope_rules.specs.Nests.{tasks_of}
-use Rattle.scope_rules.specs.Scopes.{closed}
-use Rattle.scope_rules.specs.Tasks.{is_stage, stage}
+use Rattle.std.specs.Prelude.{ℕ, ◌++◌, ◌≡◌, Bool, List, codes, length, not}
+use Rattle.tree_dump.specs.Terms.{Finished, History, Legal, Limits, Never, Running, Stage, Waiting, closed, decimal, filter, flat_map, is_stage, scope_numbers, stage, tasks_of}
 use Rattle.tree_dump.specs.TreeParts.{sums, sums_text}
 
 abbrev pub is_unclosed : History → ℕ → Bool

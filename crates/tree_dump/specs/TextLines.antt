@@ -1,24 +1,8 @@
 -- The lines of a tree, without their indents.
-use Rattle.std.specs.Prelude.{ℕ, zero, suc, ◌+◌, Bool, true, false, List, [], ◌++◌, Option, None, Some, codes}
-use Rattle.std.specs.Fmt.{decimal}
-use Rattle.scope_log.specs.LogText.{joiner_text}
-use Rattle.scope_rules.specs.Names.{text_of}
-use Rattle.scope_rules.specs.Texts.{state_word}
-use Rattle.scope_rules.specs.declared.types.answers.Cause.{Cause}
-use Rattle.scope_rules.specs.declared.types.answers.CauseKind.{CauseKind}
+use Rattle.std.specs.Prelude.{[], ℕ, ◌++◌, ◌+◌, Bool, List, None, Option, Some, codes, false, suc, true, zero}
+use Rattle.tree_dump.specs.Terms.{Cause, CauseKind, Counts, CurrentWait, Expiry, Fail, Finished, MoveOn, Name, Never, Running, ScopeInfo, Stage, State, Waiting, decimal, joiner_text, state_word, text_of}
+use Rattle.tree_dump.specs.{Ages.duration_text, Waits.main_waits, Words.scope_stage_word}
 use Rattle.scope_rules.specs.declared.types.answers.CauseKind.TheVariants as kind
-use Rattle.scope_rules.specs.declared.types.answers.Counts.{Counts}
-use Rattle.scope_rules.specs.declared.types.answers.Stage.{Stage}
-use Rattle.scope_rules.specs.declared.types.answers.Stage.TheVariants.{Never, Waiting, Running, Finished}
-use Rattle.scope_rules.specs.declared.types.answers.State.{State}
-use Rattle.scope_rules.specs.declared.types.events.Expiry.{Expiry}
-use Rattle.scope_rules.specs.declared.types.events.Expiry.TheVariants.{Fail, MoveOn}
-use Rattle.scope_rules.specs.declared.types.infos.ScopeInfo.{ScopeInfo}
-use Rattle.scope_rules.specs.declared.types.names.Name.{Name}
-use Rattle.tree_dump.specs.Ages.{duration_text}
-use Rattle.tree_dump.specs.declared.waits.CurrentWait.{CurrentWait}
-use Rattle.tree_dump.specs.Waits.{main_waits}
-use Rattle.tree_dump.specs.Words.{scope_stage_word}
 
 -- the last reading of the clock, if it was read
 abbrev pub now_text : Option ℕ → List ℕ

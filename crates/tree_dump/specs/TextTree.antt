@@ -1,16 +1,8 @@
 -- The tree of the scopes that are not closed, as text.
-use Rattle.std.specs.Prelude.{ℕ, zero, suc, ◌+◌, List, [], ◌∷◌, ◌++◌, Option, None, Some, codes}
-use Rattle.std.specs.List.{flat_map}
-use Rattle.std.specs.Option.{option_and_then, option_map_or}
-use Rattle.scope_rules.specs.declared.types.capacity.TheConstants.{LEVEL_LIMIT}
-use Rattle.scope_rules.specs.declared.types.answers.Counts.{Counts}
-use Rattle.scope_rules.specs.declared.types.infos.ScopeInfo.{ScopeInfo}
-use Rattle.scope_rules.specs.History.{History, moment}
-use Rattle.scope_rules.specs.Nests.{outermost, inner, tasks_of, label, info}
-use Rattle.scope_rules.specs.Tasks.{counts, stage, state}
-use Rattle.tree_dump.specs.Ages.{Clock, aged_text, due_in, for_text, no_clock, scope_age, scope_late, task_age}
-use Rattle.tree_dump.specs.TextLines.{indent, moment_line, scope_text, task_text}
-use Rattle.tree_dump.specs.Waits.{task_wait, task_waits}
+use Rattle.std.specs.Prelude.{[], ℕ, ◌++◌, ◌+◌, ◌∷◌, List, None, Option, Some, codes, suc, zero}
+use Rattle.tree_dump.specs.Terms.{Counts, History, LEVEL_LIMIT, ScopeInfo, counts, flat_map, info, inner, label, moment, option_and_then, option_map_or, outermost, stage, state, tasks_of}
+use Rattle.tree_dump.specs.{Ages.Clock, Ages.aged_text, Ages.due_in, Ages.for_text, Ages.no_clock, Ages.scope_age, Ages.scope_late, Ages.task_age, TextLines.indent, TextLines.moment_line, TextLines.scope_text, TextLines.task_text}
+use Rattle.tree_dump.specs.{Waits.task_wait, Waits.task_waits}
 
 -- a line at this depth
 abbrev pub line : ℕ → List ℕ → List ℕ

@@ -1,14 +1,6 @@
 -- The second format of a dump: the first one with times, limits, and what counts against them.
-use Rattle.std.specs.Prelude.{ℕ, List, Some, codes}
-use Rattle.scope_rules.specs.declared.types.capacity.Limits.{Limits}
-use Rattle.scope_rules.specs.History.{History, forked_count, moment, opened_count}
-use Rattle.scope_rules.specs.Load.{load}
-use Rattle.scope_rules.specs.Nests.{outermost}
-use Rattle.serde_json.specs.Data.{Data, number, unsigned, object, member, no_members}
-use Rattle.serde_json.specs.Written.{compact_text}
-use Rattle.tree_dump.specs.Ages.{Clock}
-use Rattle.tree_dump.specs.Objects.{number_or_null}
-use Rattle.tree_dump.specs.Tree.{levels, nested}
+use Rattle.tree_dump.specs.Terms.{ℕ, Data, History, Limits, List, Some, codes, compact_text, forked_count, load, member, moment, no_members, number, object, opened_count, outermost, unsigned}
+use Rattle.tree_dump.specs.{Ages.Clock, Objects.number_or_null, Tree.levels, Tree.nested}
 
 -- units of load, scopes and tasks
 abbrev pub amounts : ℕ → ℕ → ℕ → Data

@@ -1,11 +1,7 @@
 -- That the second format of a dump is the first one with members more.
-use Rattle.std.specs.Prelude.{◌≡◌, ℕ, ◌||◌, Bool, List, bytes_eq, codes, if◌then◌else◌}
-use Rattle.scope_rules.specs.declared.types.capacity.Limits.{Limits}
-use Rattle.scope_rules.specs.History.{History}
-use Rattle.serde_json.specs.Data.{Data, null, boolean, number, string, array, object, Items, no_items, item, Members, no_members, member}
-use Rattle.tree_dump.specs.Ages.{Clock}
-use Rattle.tree_dump.specs.Timed.{timed_dump_data}
-use Rattle.tree_dump.specs.Tree.{dump_data}
+use Rattle.std.specs.Prelude.{ℕ, ◌||◌, ◌≡◌, Bool, List, bytes_eq, codes, if◌then◌else◌}
+use Rattle.tree_dump.specs.Terms.{Data, History, Items, Limits, Members, array, boolean, item, member, no_items, no_members, null, number, object, string}
+use Rattle.tree_dump.specs.{Ages.Clock, Timed.timed_dump_data, Tree.dump_data}
 
 -- the key of a member that the second format adds
 abbrev pub is_added : List ℕ → Bool

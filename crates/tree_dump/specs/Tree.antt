@@ -1,15 +1,7 @@
 -- The tree of the scopes that are not closed, as JSON. With a clock each scope has a member more, and each task has three.
-use Rattle.std.specs.Prelude.{ℕ, zero, suc, List, map, Option, None, option_map, codes}
-use Rattle.std.specs.Option.{option_map_or}
-use Rattle.scope_rules.specs.History.{History, moment}
-use Rattle.scope_rules.specs.Nests.{outermost, inner, tasks_of, label, info}
-use Rattle.scope_rules.specs.Tasks.{stage, state}
-use Rattle.serde_json.specs.Data.{Data, null, number, unsigned, object, Items, member, no_members}
-use Rattle.serde_json.specs.View.{items_of}
-use Rattle.serde_json.specs.Written.{compact_text}
-use Rattle.tree_dump.specs.Ages.{Clock, scope_since, task_times}
-use Rattle.tree_dump.specs.Objects.{scope_object, task_object}
-use Rattle.tree_dump.specs.declared.told.TaskTold.{TaskTold}
+use Rattle.tree_dump.specs.Terms.{ℕ, Data, History, Items, List, None, Option, TaskTold, codes, compact_text, info, inner, items_of, label, map, member, moment, no_members, null, number, object, option_map, option_map_or}
+use Rattle.tree_dump.specs.Terms.{outermost, stage, state, suc, tasks_of, unsigned, zero}
+use Rattle.tree_dump.specs.{Ages.Clock, Ages.scope_since, Ages.task_times, Objects.scope_object, Objects.task_object}
 
 -- what there is to say of task k, if it was forked since the base
 unfoldable pub task_told : History → ℕ → Option TaskTold

@@ -1,23 +1,9 @@
 -- Parts of the tree, as text, and what all that is open sums up to.
-use Rattle.std.specs.Prelude.{ℕ, ◌+◌, ◌&&◌, min, nat_lt, Bool, true, false, not, is_some, List, [], ◌++◌, Option, None, Some, codes, fold, if◌then◌else◌}
-use Rattle.std.specs.List.{flat_map}
-use Rattle.std.specs.Option.{option_map_or}
-use Rattle.std.specs.Fmt.{decimal}
-use Rattle.scope_rules.specs.declared.types.answers.Counts.{Counts}
-use Rattle.scope_rules.specs.declared.types.answers.Stage.{Stage}
-use Rattle.scope_rules.specs.declared.types.answers.Stage.TheVariants.{Waiting, Running}
-use Rattle.scope_rules.specs.declared.types.capacity.TheConstants.{LEVEL_LIMIT}
-use Rattle.scope_rules.specs.declared.types.infos.ScopeInfo.{ScopeInfo}
-use Rattle.scope_rules.specs.History.{History, moment, opening, scope_numbers}
-use Rattle.scope_rules.specs.Nests.{info, outermost, tasks_of}
-use Rattle.scope_rules.specs.Scopes.{closed}
-use Rattle.scope_rules.specs.Tasks.{counts, stage}
-use Rattle.tree_dump.specs.declared.parts.Sums.{Sums}
-use Rattle.tree_dump.specs.declared.parts.TreePart.{TreePart}
+use Rattle.std.specs.Prelude.{[], ℕ, ◌&&◌, ◌++◌, ◌+◌, Bool, List, None, Option, Some, codes, false, fold, if◌then◌else◌, is_some, min, nat_lt, not, true}
+use Rattle.tree_dump.specs.Terms.{Counts, History, LEVEL_LIMIT, Running, ScopeInfo, Stage, Sums, TreePart, Waiting, closed, counts, decimal, flat_map, info, moment, opening, option_map_or, outermost, scope_numbers, stage}
+use Rattle.tree_dump.specs.Terms.{tasks_of}
+use Rattle.tree_dump.specs.{Ages.Clock, TextLines.moment_line, TextTree.nested, TextTree.scope_line, TextTree.task_line, TextTree.tree_by}
 use Rattle.tree_dump.specs.declared.parts.TreePart.TheVariants as part
-use Rattle.tree_dump.specs.Ages.{Clock}
-use Rattle.tree_dump.specs.TextLines.{moment_line}
-use Rattle.tree_dump.specs.TextTree.{nested, scope_line, task_line, tree_by}
 
 -- ---- all that is open
 

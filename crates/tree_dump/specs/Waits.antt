@@ -1,13 +1,6 @@
 -- In which calls actors wait, and how long.
-use Rattle.std.specs.Prelude.{ℕ, ◌-◌, List, [], ◌++◌, Option, None, Some, option_map, codes}
-use Rattle.std.specs.Option.{option_and_then}
-use Rattle.scope_rules.specs.declared.types.answers.Stage.{Stage}
-use Rattle.scope_rules.specs.declared.types.answers.Stage.TheVariants.{Running}
-use Rattle.scope_rules.specs.History.{History}
-use Rattle.tree_dump.specs.declared.waits.CurrentWait.{CurrentWait}
-use Rattle.tree_dump.specs.declared.waits.WaitCall.{WaitCall}
-use Rattle.tree_dump.specs.declared.waits.WaitCall.TheVariants.{Join, Close, Sleep, Receive, Send, Permit, NextDone, Stop, Ring}
-use Rattle.tree_dump.specs.declared.waits.Waits.{Waits}
+use Rattle.std.specs.Prelude.{[], ℕ, ◌++◌, ◌-◌, List, None, Option, Some, codes, option_map}
+use Rattle.tree_dump.specs.Terms.{Close, CurrentWait, History, Join, NextDone, Permit, Receive, Ring, Running, Send, Sleep, Stage, Stop, WaitCall, Waits, option_and_then}
 use Rattle.tree_dump.specs.Ages.{Clock, for_text, reading_in}
 
 -- the same readings, and these waits

@@ -1,8 +1,6 @@
 -- The words of a dump that no reply has.
-use Rattle.std.specs.Prelude.{ℕ, List, codes}
-use Rattle.scope_rules.specs.declared.types.events.Expiry.{Expiry}
+use Rattle.tree_dump.specs.Terms.{ℕ, Expiry, List, ScopeStage, codes}
 use Rattle.scope_rules.specs.declared.types.events.Expiry.TheVariants as expiry
-use Rattle.scope_rules.specs.declared.types.infos.ScopeStage.{ScopeStage}
 use Rattle.scope_rules.specs.declared.types.infos.ScopeStage.TheVariants as scope
 
 abbrev pub expiry_word : Expiry → List ℕ

@@ -1,8 +1,7 @@
 //! How long tasks run and scopes are open, by a clock.
 ghost use Rattle.std.specs.Prelude.{◌≡◌, Some, option_map};
-ghost use Rattle.std.specs.Option.{option_and_then};
-ghost use Rattle.tree_dump.specs.Waits.{with_waits};
-ghost use Rattle.tree_dump.specs.Ages.{aged_text, clock_of, due_in, duration_text, for_text, late_by, late_text, no_clock, open_text, reading_in, runs_or_ran, scope_age, scope_late, scope_since, since, task_age, task_reading, task_times};
+ghost use Rattle.tree_dump.specs.{Ages.open_text, aged_text, clock_of, due_in, duration_text, for_text, late_by, late_text, no_clock, option_and_then, reading_in, runs_or_ran, scope_age, scope_late, scope_since, since, task_age};
+ghost use Rattle.tree_dump.specs.{task_reading, task_times, with_waits};
 
 use crate::waits::Waits;
 use scope_checks::Readings;

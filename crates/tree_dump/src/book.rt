@@ -1,8 +1,7 @@
 //! The dump of a book.
 
 ghost use Rattle.std.specs.Prelude.{◌≡◌, IfOk, string_bytes};
-ghost use Rattle.scope_book.specs.Books.{history_of};
-ghost use Rattle.tree_dump.specs.Tree.{dump_text};
+ghost use Rattle.tree_dump.specs.{dump_text, history_of};
 
 use crate::walk::dump_of;
 use scope_book::BookState;

@@ -1,8 +1,6 @@
 //! Readings by scope and by task, of those by event.
-ghost use Rattle.std.specs.Prelude.{◌≡◌, ◌+◌, IfOk, OnOk, length, string_bytes};
-ghost use Rattle.tree_dump.specs.Ages.{clock_of, no_clock};
-ghost use Rattle.tree_dump.specs.Kept.{clock_by, clock_kept, known_clock, small, stamp_at, stamps_to};
-ghost use Rattle.tree_dump.specs.TextTree.{tree_by};
+ghost use Rattle.std.specs.Prelude.{◌+◌, ◌≡◌, IfOk, OnOk, length, string_bytes};
+ghost use Rattle.tree_dump.specs.{clock_by, clock_kept, clock_of, known_clock, no_clock, small, stamp_at, stamps_to, tree_by};
 
 use crate::ages::Ages;
 use crate::text_walk::tree_with;

@@ -1,14 +1,6 @@
 //! Laws of dumps and trees. The functions do nothing: their contracts are the laws.
 
-ghost use Rattle.tree_dump.specs.Awaits.{TreeAwaits};
-ghost use Rattle.tree_dump.specs.Retiring.{DumpStays};
-ghost use Rattle.tree_dump.specs.RetiringText.{TreeStays};
-ghost use Rattle.tree_dump.specs.Once.{TreeShowsEachOnce};
-ghost use Rattle.tree_dump.specs.Shows.{TreeShowsEach};
-ghost use Rattle.tree_dump.specs.ShowsAwaited.{AwaitedShows};
-ghost use Rattle.tree_dump.specs.ShowsLevels.{LevelsShow, RootLevelsShow};
-ghost use Rattle.tree_dump.specs.Summed.{SumsCount};
-ghost use Rattle.tree_dump.specs.TimedAdds.{TimedAdds};
+ghost use Rattle.tree_dump.specs.{AwaitedShows, DumpStays, LevelsShow, RootLevelsShow, SumsCount, TimedAdds.TimedAdds, TreeAwaits, TreeShowsEach, TreeShowsEachOnce, TreeStays};
 
 /// A retirement changes nothing that a dump or a tree shows. If a list of commands without its retirements meets no
 /// limit, and no command behind an accepted retirement names a discarded number, then what it leaves is shown the same

@@ -1,10 +1,6 @@
 //! The members of a dump's objects, each as it is sent to a serializer: its key, and then its value.
 ghost use Rattle.std.specs.Prelude.{◌≡◌, OnOk, codes, option_map};
-ghost use Rattle.serde_json.specs.Data.{boolean, number, unsigned, string};
-ghost use Rattle.serde_json.specs.Events.{SendsValue};
-ghost use Rattle.tree_dump.specs.Sent.{SendsMember, SendsMore, SendsSince, scope_members, task_members};
-ghost use Rattle.tree_dump.specs.Objects.{cause_or_null, number_or_null, result_data};
-ghost use Rattle.scope_log.specs.LogText.{joiner_text};
+ghost use Rattle.tree_dump.specs.{SendsMember, SendsMore, SendsSince, SendsValue, boolean, cause_or_null, joiner_text, number, number_or_null, result_data, scope_members, string, task_members, unsigned};
 
 use crate::ages::TaskTimes;
 use crate::words::joiner_word;

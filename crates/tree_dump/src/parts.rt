@@ -1,11 +1,7 @@
 //! Parts of the tree as text: what is waited for alone, or some levels. A last line sums up all that is open.
-ghost use Rattle.std.specs.Prelude.{◌≡◌, ◌++◌, IfOk, OnOk, Some, string_bytes};
-ghost use Rattle.std.specs.List.{flat_map};
-ghost use Rattle.scope_checks.specs.Passes.{Passes};
-ghost use Rattle.scope_rules.specs.Checks.{scope_check};
-ghost use Rattle.scope_rules.specs.Nests.{tasks_of};
-ghost use Rattle.tree_dump.specs.Ages.{clock_of};
-ghost use Rattle.tree_dump.specs.TreeParts.{added, awaited, awaited_lines, awaited_scope, awaited_sums, awaited_task, ended_sums, levels_from, part_text, stands, sums, sums_text, waits, with_counts, with_scope};
+ghost use Rattle.std.specs.Prelude.{◌++◌, ◌≡◌, IfOk, OnOk, Some, string_bytes};
+ghost use Rattle.tree_dump.specs.{Passes, added, awaited, awaited_lines, awaited_scope, awaited_sums, awaited_task, clock_of, ended_sums, flat_map, levels_from, part_text, scope_check, stands, sums, sums_text, tasks_of, waits};
+ghost use Rattle.tree_dump.specs.{with_counts, with_scope};
 
 use crate::ages::Ages;
 use crate::text_walk::{append_scope, append_scope_line, append_task_line, begun, tree_with};

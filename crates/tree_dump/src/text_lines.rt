@@ -1,7 +1,7 @@
 //! The lines of a tree, without their indents.
-ghost use Rattle.std.specs.Prelude.{◌≡◌, ◌+◌, ◌<◌, ◌^◌, Some};
-ghost use Rattle.tree_dump.specs.TextTree.{aged_scope};
-ghost use Rattle.tree_dump.specs.TextLines.{awaits_text, cause_text, deadline_text, due_text, expiry_text, head_text, indent, joined_text, kind_text, moment_line, now_text, owner_text, progress_text, scope_text, shield_text, task_text};
+ghost use Rattle.std.specs.Prelude.{◌+◌, ◌<◌, ◌^◌, ◌≡◌, Some};
+ghost use Rattle.tree_dump.specs.{aged_scope, awaits_text, cause_text, deadline_text, due_text, expiry_text, head_text, indent, joined_text, kind_text, moment_line, now_text, owner_text, progress_text, scope_text, shield_text};
+ghost use Rattle.tree_dump.specs.{task_text};
 
 use crate::ages::{ShownAged, ShownDuration};
 use crate::waits::{CurrentWait, ShownMainWait};

@@ -1,11 +1,6 @@
 //! The walk over the tree.
-ghost use Rattle.std.specs.Prelude.{◌≡◌, ◌≤◌, ◌+◌, ◌++◌, IfOk, OnOk, string_bytes};
-ghost use Rattle.scope_checks.specs.Passes.{Passes};
-ghost use Rattle.scope_rules.specs.Checks.{scope_check};
-ghost use Rattle.tree_dump.specs.Ages.{clock_of};
-ghost use Rattle.scope_rules.specs.History.{moment};
-ghost use Rattle.tree_dump.specs.TextLines.{moment_line};
-ghost use Rattle.tree_dump.specs.TextTree.{nested, scope_line, task_line, tree_by, tree_text};
+ghost use Rattle.std.specs.Prelude.{◌++◌, ◌+◌, ◌≡◌, ◌≤◌, IfOk, OnOk, string_bytes};
+ghost use Rattle.tree_dump.specs.{Passes, TextTree.nested, clock_of, moment, moment_line, scope_check, scope_line, task_line, tree_by, tree_text};
 
 use crate::ages::{Ages, ShownFor, due_in, scope_age, scope_late, task_age};
 use crate::text_lines::{AgedScope, Indent, ShownMoment, ShownTask};

@@ -1,9 +1,6 @@
 //! The second format of a dump: the tree with times, the limits, and what counts against them.
 ghost use Rattle.std.specs.Prelude.{◌≡◌, IfOk, OnOk, string_bytes};
-ghost use Rattle.scope_rules.specs.History.{forked_count, opened_count};
-ghost use Rattle.serde_json.specs.Events.{SendsValue};
-ghost use Rattle.tree_dump.specs.Ages.{clock_of};
-ghost use Rattle.tree_dump.specs.Timed.{amounts, timed_dump_data, timed_dump_text};
+ghost use Rattle.tree_dump.specs.{SendsValue, amounts, clock_of, forked_count, opened_count, timed_dump_data, timed_dump_text};
 
 use crate::ages::Ages;
 use crate::members::{send_number, send_time};

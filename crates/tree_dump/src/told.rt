@@ -1,9 +1,6 @@
 //! What a walk over the tree reads of a scope and of a task.
 ghost use Rattle.std.specs.Prelude.{◌≡◌, IfSome, option_and_then};
-ghost use Rattle.scope_checks.specs.Passes.{Passes};
-ghost use Rattle.scope_rules.specs.Checks.{scope_check};
-ghost use Rattle.scope_rules.specs.Nests.{info};
-ghost use Rattle.tree_dump.specs.Tree.{task_told};
+ghost use Rattle.tree_dump.specs.{Passes, info, scope_check, task_told};
 
 use scope_checks::{Readings, queries};
 use scope_rules::types::infos::ScopeInfo;

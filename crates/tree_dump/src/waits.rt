@@ -1,7 +1,6 @@
 //! In which calls actors wait: what no history has, and a tree may say.
-ghost use Rattle.std.specs.Prelude.{◌≡◌, [], None, Some};
-ghost use Rattle.tree_dump.specs.Ages.{clock_of};
-ghost use Rattle.tree_dump.specs.Waits.{call_word, main_waits, task_wait, task_waits, waited, wait_text};
+ghost use Rattle.std.specs.Prelude.{[], ◌≡◌, None, Some};
+ghost use Rattle.tree_dump.specs.{call_word, clock_of, main_waits, task_wait, task_waits, wait_text, waited};
 
 use crate::ages::{Ages, ShownFor, reading_in};
 use scope_checks::Readings;

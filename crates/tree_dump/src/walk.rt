@@ -1,12 +1,6 @@
 //! The walk over the tree, which is sent to a serializer as it goes.
-ghost use Rattle.std.specs.Prelude.{◌≡◌, IfOk, None, OnOk, option_map, string_bytes, length};
-ghost use Rattle.scope_rules.specs.Checks.{scope_check};
-ghost use Rattle.scope_rules.specs.Nests.{tasks_of};
-ghost use Rattle.scope_checks.specs.Passes.{Passes};
-ghost use Rattle.serde_json.specs.Data.{array};
-ghost use Rattle.serde_json.specs.Events.{SendsValue};
-ghost use Rattle.tree_dump.specs.Ages.{clock_of};
-ghost use Rattle.tree_dump.specs.Tree.{nested, task_shown, tasks_shown, dump_data, dump_text};
+ghost use Rattle.std.specs.Prelude.{◌≡◌, IfOk, None, OnOk, length, option_map, string_bytes};
+ghost use Rattle.tree_dump.specs.{Passes, SendsValue, Tree.nested, array, clock_of, dump_data, dump_text, scope_check, task_shown, tasks_of, tasks_shown};
 
 use crate::ages::{Ages, scope_since, task_times};
 use crate::members::{

@@ -1,7 +1,6 @@
 //! The words of a dump that no reply has.
 ghost use Rattle.std.specs.Prelude.{◌≡◌, IfOk, string_bytes};
-ghost use Rattle.scope_log.specs.LogText.{joiner_text};
-ghost use Rattle.tree_dump.specs.Words.{expiry_word, scope_stage_word};
+ghost use Rattle.tree_dump.specs.{expiry_word, joiner_text, scope_stage_word};
 
 use scope_log::ShownJoiner;
 use scope_rules::types::infos::ScopeStage;

@@ -1,17 +1,8 @@
 //! What the events of scopes make of the rows.
 
-ghost use Rattle.std.specs.Prelude.{◌≡◌, ℕ, ◌≤◌, length, IfSome};
-ghost use Rattle.scope_rules.specs.History.{History, followed};
-ghost use Rattle.scope_rules.specs.Scopes.{surrounding};
-ghost use Rattle.scope_rules.specs.Bindings.{stack};
-ghost use Rattle.scope_rules.specs.Legal.{Legal, Accepts};
-ghost use Rattle.scope_rules.specs.declared.types.capacity.Limits.{Limits};
-ghost use Rattle.scope_rules.specs.declared.types.events.Event.TheVariants.{Open, Join, BeginClose, EndClose};
-ghost use Rattle.scope_rows.specs.Agreement.{AreRowsOf};
-ghost use Rattle.scope_rows.specs.Table.{HasScope};
-ghost use Rattle.scope_rows.specs.Numbered.{HasEntry};
-ghost use Rattle.scope_rows.specs.Steps.{opened, joined, marked, is_this, close_begun, close_ended};
-ghost use Rattle.scope_rows.specs.Wants.{CanOpen, AreLinked, CanBeginClose, CanEndClose};
+ghost use Rattle.std.specs.Prelude.{ℕ, ◌≡◌, ◌≤◌, IfSome, length};
+ghost use Rattle.scope_rows.specs.{Accepts, AreLinked, AreRowsOf, BeginClose, CanBeginClose, CanEndClose, CanOpen, EndClose, HasEntry, HasScope, History, Join, Legal, Limits, Open, Steps.joined, close_begun, close_ended};
+ghost use Rattle.scope_rows.specs.{followed, is_this, marked, opened, stack, surrounding};
 
 use crate::numbered::Numbered;
 use crate::records::ScopeRow;

@@ -1,16 +1,8 @@
 //! What the events of tasks make of the rows.
 
-ghost use Rattle.std.specs.Prelude.{◌≡◌, ℕ, ◌≤◌, length};
-ghost use Rattle.scope_rules.specs.History.{History, followed};
-ghost use Rattle.scope_rules.specs.Cancels.{is_cancelled};
-ghost use Rattle.scope_rules.specs.Legal.{Legal, Accepts};
-ghost use Rattle.scope_rules.specs.declared.types.capacity.Limits.{Limits};
-ghost use Rattle.scope_rules.specs.declared.types.events.Event.TheVariants.{Fork, Reject, Start, Finish};
-ghost use Rattle.scope_rules.specs.declared.types.values.Label.{Label};
-ghost use Rattle.scope_rows.specs.Agreement.{AreRowsOf};
-ghost use Rattle.scope_rows.specs.Table.{scope_of};
-ghost use Rattle.scope_rows.specs.Steps.{forked, taken, rejected, started, finished, count_fork, count_taken, count_finish, new_task_row, state_at_end};
-ghost use Rattle.scope_rows.specs.Wants.{CanFork, CanBeTaken, CanFinish, HasCountRoom};
+ghost use Rattle.std.specs.Prelude.{ℕ, ◌≡◌, ◌≤◌, length};
+ghost use Rattle.scope_rows.specs.{Accepts, AreRowsOf, CanBeTaken, CanFinish, CanFork, Finish, Fork, HasCountRoom, History, Label, Legal, Limits, Reject, Start, Steps.finished, count_finish, count_fork, count_taken, followed};
+ghost use Rattle.scope_rows.specs.{forked, is_cancelled, new_task_row, rejected, scope_of, started, state_at_end, taken};
 
 use crate::records::TaskRow;
 use crate::rows::Rows;

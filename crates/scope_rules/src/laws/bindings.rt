@@ -1,6 +1,6 @@
 //! Laws of what actors see bound. Each function does nothing: its contract is the law.
 
-ghost use Rattle.scope_rules.specs.BindingLaws.{TaskSeesForker, MainSeesOwn, BoundAsOpened, ForkedAsOpened, LastWasBound, LastBoundOnce, HeldByLaterScopes, HeldByAnyScope, StackStaysAbove};
+ghost use Rattle.scope_rules.specs.{BoundAsOpened, ForkedAsOpened, HeldByAnyScope, HeldByLaterScopes, LastBoundOnce, LastWasBound, MainSeesOwn, StackStaysAbove, TaskSeesForker};
 
 /// A task sees what its forker saw at the fork, then its own pairs. Main sees its own pairs alone.
 pub fn tasks_see_what_their_forker_saw()

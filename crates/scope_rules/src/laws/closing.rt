@@ -1,6 +1,6 @@
 //! What closing leaves. Each function does nothing: its contract is the law.
 
-ghost use Rattle.scope_rules.specs.ClosingLaws.{ClosedScopeIsWhole, NothingRunsWithoutAScopeOfMain, ViolatedIfItCoveredAnother};
+ghost use Rattle.scope_rules.specs.{ClosedScopeIsWhole, NothingRunsWithoutAScopeOfMain, ViolatedIfItCoveredAnother};
 
 /// None of the tasks of a closed scope waits or runs, and each scope inside it is closed, at any
 /// depth and behind shields too.

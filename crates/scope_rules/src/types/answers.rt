@@ -1,6 +1,5 @@
 ghost use Rattle.std.specs.Prelude.{◌≡◌};
-ghost use Rattle.scope_rules.specs.Tasks.{state_by_end};
-ghost use Rattle.scope_rules.specs.Texts.{kind_word, stage_word, state_word};
+ghost use Rattle.scope_rules.specs.{kind_word, stage_word, state_by_end, state_word};
 
 use crate::types::values::{End, Fault, ScopeId, TaskId, Value};
 

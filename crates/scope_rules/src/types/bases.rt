@@ -1,5 +1,5 @@
 ghost use Rattle.std.specs.Prelude.{◌≡◌};
-ghost use Rattle.std.specs.Arc.{arc_slice_items};
+ghost use Rattle.scope_rules.specs.{arc_slice_items};
 
 use crate::types::events::Binding;
 use std::alloc::Global;

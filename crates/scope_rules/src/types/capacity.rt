@@ -1,5 +1,5 @@
-ghost use Rattle.std.specs.Prelude.{◌≡◌, ◌≤◌, ◌↔◌, IsSome, IfSome};
-ghost use Rattle.scope_rules.specs.declared.types.capacity.TheConstants.{SCOPE_LIMIT, TASK_LIMIT, LOAD_LIMIT};
+ghost use Rattle.std.specs.Prelude.{◌↔◌, ◌≡◌, ◌≤◌, IfSome, IsSome};
+ghost use Rattle.scope_rules.specs.declared.types.capacity.TheConstants.{LOAD_LIMIT, SCOPE_LIMIT, TASK_LIMIT};
 
 /// The greatest number of scopes that a realm can be given.
 pub const SCOPE_LIMIT: u32 = 4096;

@@ -1,6 +1,5 @@
-ghost use Rattle.std.specs.Prelude.{◌≡◌, ◌↔◌, Err, IsTrue};
-ghost use Rattle.scope_rules.specs.Fitting.{IsRuntimeFault, IsRuntimeEnd};
-ghost use Rattle.scope_rules.specs.Ends.{LabelValue, EndValue, FaultValue};
+ghost use Rattle.std.specs.Prelude.{◌↔◌, ◌≡◌, Err, IsTrue};
+ghost use Rattle.scope_rules.specs.{EndValue, FaultValue, IsRuntimeEnd, IsRuntimeFault, LabelValue};
 
 use crate::types::values::{End, Fault, Label};
 

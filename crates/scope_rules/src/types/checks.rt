@@ -1,5 +1,5 @@
 ghost use Rattle.std.specs.Prelude.{◌≡◌};
-ghost use Rattle.scope_rules.specs.Checks.{refusal_of};
+ghost use Rattle.scope_rules.specs.{refusal_of};
 
 use crate::types::refusals::Refusal;
 use crate::types::values::{Actor, ScopeId, TaskId};

@@ -1,6 +1,6 @@
-ghost use Rattle.std.specs.Prelude.{◌≡◌, ◌<◌, ◌↔◌, IsSome, IfSome, IsTrue, Some, length, ◌≤◌};
+ghost use Rattle.std.specs.Prelude.{◌<◌, ◌↔◌, ◌≡◌, ◌≤◌, IfSome, IsSome, IsTrue, Some, length};
 ghost use Rattle.std.specs.List.{list_all};
-ghost use Rattle.scope_rules.specs.NameText.{is_stored, is_name, is_inner, is_letter, begins_with_letter};
+ghost use Rattle.scope_rules.specs.NameText.{begins_with_letter, is_inner, is_letter, is_name, is_stored};
 
 use std::str;
 

@@ -1,5 +1,5 @@
-ghost use Rattle.std.specs.Prelude.{◌≡◌, ◌↔◌, Some};
-ghost use Rattle.std.specs.Option.{MatchOption};
+ghost use Rattle.std.specs.Prelude.{◌↔◌, ◌≡◌, Some};
+ghost use Rattle.scope_rules.specs.{MatchOption};
 
 use crate::types::answers::State;
 use crate::types::values::{Fault, ScopeId, TaskId, Value};

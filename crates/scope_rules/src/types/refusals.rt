@@ -1,6 +1,5 @@
 ghost use Rattle.std.specs.Prelude.{◌≡◌, Some};
-ghost use Rattle.scope_rules.specs.Refusals.{refusal_number, word_of, line_of};
-ghost use Rattle.scope_rules.specs.declared.types.refusals.Refusal.TheVariants.{Memory};
+ghost use Rattle.scope_rules.specs.{Memory, line_of, refusal_number, word_of};
 
 use std::alloc::{AllocError, AllocFailed};
 use std::error::Error;

@@ -1,5 +1,5 @@
-ghost use Rattle.std.specs.Prelude.{◌≡◌, ◌↔◌, IsTrue, Some};
-ghost use Rattle.scope_rules.specs.Values.{same_value};
+ghost use Rattle.std.specs.Prelude.{◌↔◌, ◌≡◌, IsTrue, Some};
+ghost use Rattle.scope_rules.specs.{same_value};
 
 use crate::types::names::Name;
 

@@ -1,7 +1,7 @@
 //! From what the book answers to the reply.
 
 ghost use Rattle.std.specs.Prelude.{◌≡◌, MatchResult};
-ghost use Rattle.scope_script.specs.Replying.{done_reply, replied, reply_of, told_base};
+ghost use Rattle.scope_script.specs.{done_reply, replied, reply_of, told_base};
 
 use scope_checks::EventReply;
 use scope_rules::{Base, Event, Refusal};

@@ -1,7 +1,5 @@
-ghost use Rattle.std.specs.Prelude.{◌≡◌, ◌≢◌, IfOk, OnOk, OnErr};
-ghost use Rattle.scope_rules.specs.Legal.{Legal};
-ghost use Rattle.scope_book.specs.Books.{realm_of, limits_of, history_of};
-ghost use Rattle.scope_script.specs.Replying.{Performs, PerformsOrStops, StopsAmong, answer_to, realm_after_all, realm_stopped};
+ghost use Rattle.std.specs.Prelude.{◌≡◌, ◌≢◌, IfOk, OnErr, OnOk};
+ghost use Rattle.scope_script.specs.{Legal, Performs, PerformsOrStops, StopsAmong, answer_to, history_of, limits_of, realm_after_all, realm_of, realm_stopped};
 
 use crate::performing::answers::{reply_of, retired, told};
 use scope_book::BookState;

@@ -1,5 +1,5 @@
-ghost use Rattle.std.specs.Prelude.{◌≡◌, [], Some};
-ghost use Rattle.scope_script.specs.KeptLines.{grown_by, said, is_blank};
+ghost use Rattle.std.specs.Prelude.{[], ◌≡◌, Some};
+ghost use Rattle.scope_script.specs.{grown_by, is_blank, said};
 
 use arrayvec::ArrayVec;
 use script_words::{LINE_LIMIT, Line, read_line_into};

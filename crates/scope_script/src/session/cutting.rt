@@ -1,7 +1,7 @@
 //! Where the lines of a piece end.
 
-ghost use Rattle.std.specs.Prelude.{◌≡◌, false, MatchOption};
-ghost use Rattle.scope_script.specs.Cutting.{has_feed, CutsLine};
+ghost use Rattle.std.specs.Prelude.{◌≡◌, MatchOption, false};
+ghost use Rattle.scope_script.specs.{CutsLine, has_feed};
 
 use memchr::memchr;
 

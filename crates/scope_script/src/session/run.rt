@@ -1,12 +1,5 @@
-ghost use Rattle.std.specs.Prelude.{◌≡◌, ◌<◌, ◌⊎◌, [], true, false, length, IfOk, OnOk, OnErr, IsErrOf, vec_len};
-ghost use Rattle.scope_rules.specs.declared.types.capacity.Limits.{Limits};
-ghost use Rattle.std.specs.Io.KnownBytes.{Appends};
-ghost use Rattle.scope_book.specs.Books.{realm_of};
-ghost use Rattle.scope_script.specs.Books.{session_of};
-ghost use Rattle.scope_script.specs.Sessions.{replies_of, shown};
-ghost use Rattle.scope_script.specs.ByBytes.{after_bytes, bytes_reply, end_reply, end_tally, the_beginning};
-ghost use Rattle.scope_script.specs.Streams.{AppendsPart};
-ghost use Rattle.scope_script.specs.Running.{RunsToEnd, RunsTallied, RunsText, RunsPartly};
+ghost use Rattle.std.specs.Prelude.{[], ◌<◌, ◌≡◌, ◌⊎◌, IfOk, IsErrOf, OnErr, OnOk, false, length, true, vec_len};
+ghost use Rattle.scope_script.specs.{Appends, AppendsPart, Limits, RunsPartly, RunsTallied, RunsText, RunsToEnd, after_bytes, bytes_reply, end_reply, end_tally, realm_of, replies_of, session_of, shown, the_beginning};
 
 use crate::session::script::Script;
 use crate::session::tally::Tally;

@@ -1,11 +1,5 @@
-ghost use Rattle.std.specs.Prelude.{◌≡◌, ◌++◌, ◌∷◌, [], OnOk, OnErr};
-ghost use Rattle.scope_book.specs.Books.{realm_of};
-ghost use Rattle.script_words.specs.ReplyText.{reply_text};
-ghost use Rattle.scope_script.specs.Sessions.{line_reply, realm_after_line, shown};
-ghost use Rattle.scope_script.specs.ByBytes.{after_bytes, bytes_reply, end_reply, end_tally, the_beginning};
-ghost use Rattle.scope_script.specs.Tallies.{tally_after_line};
-ghost use Rattle.scope_script.specs.Books.{session_of};
-ghost use Rattle.scope_script.specs.Streams.{AppendsPart};
+ghost use Rattle.std.specs.Prelude.{[], ◌++◌, ◌∷◌, ◌≡◌, OnErr, OnOk};
+ghost use Rattle.scope_script.specs.{AppendsPart, after_bytes, bytes_reply, end_reply, end_tally, line_reply, realm_after_line, realm_of, reply_text, session_of, shown, tally_after_line, the_beginning};
 
 use crate::performing::commands::perform;
 use crate::session::begun::BegunLine;

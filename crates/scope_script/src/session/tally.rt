@@ -1,5 +1,5 @@
 ghost use Rattle.std.specs.Prelude.{◌≡◌};
-ghost use Rattle.scope_script.specs.Tallies.{is_refused, no_refusals, one_more, with_bad_word, with_reply};
+ghost use Rattle.scope_script.specs.{is_refused, no_refusals, one_more, with_bad_word, with_reply};
 
 use script_words::Reply;
 

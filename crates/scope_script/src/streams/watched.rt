@@ -1,6 +1,5 @@
-ghost use Rattle.std.specs.Prelude.{◌≡◌, ◌+◌, ◌≤◌, ◌<◌, ℕ, true, false, length, take, IfOk, OnOk, OnErr, List, IsOk};
-ghost use Rattle.std.specs.Io.KnownBytes.{Appends, Consumes, IsAtEnd, Keeps};
-ghost use Rattle.scope_script.specs.Streams.{AppendsPart};
+ghost use Rattle.std.specs.Prelude.{ℕ, ◌+◌, ◌<◌, ◌≡◌, ◌≤◌, IfOk, IsOk, List, OnErr, OnOk, false, length, take, true};
+ghost use Rattle.scope_script.specs.{Appends, AppendsPart, Consumes, IsAtEnd, Keeps};
 
 use std::io::{Read, Write};
 use thiserror::Error;

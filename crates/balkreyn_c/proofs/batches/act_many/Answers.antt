@@ -1,6 +1,5 @@
-use Rattle.std.proofs.Common.{ℤ, Some, sym, subst, ap, w64, ◌∙◌}
-use Rattle.std.proofs.Math.Facts.{to_z-of_z}
-use Rattle.balkreyn_c.specs.Batches.{Batched}
+use Rattle.balkreyn_c.specs.{Batched}
+use Rattle.balkreyn_c.proofs.Lemmas.{ℤ, ◌∙◌, Some, ap, subst, sym, to_z-of_z, w64}
 use Rattle.balkreyn_c.proofs.Repeats.{acted}
 use Rattle.balkreyn_c.proofs.batches.act_many.Goals as goal
 

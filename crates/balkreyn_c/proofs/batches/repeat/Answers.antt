@@ -1,6 +1,5 @@
-use Rattle.std.proofs.Common.{arith}
-use Rattle.std.proofs.lemmas.Int.{ints}
-use Rattle.balkreyn_c.proofs.Repeats.{gone_none, gone_more, stopped, whole, not_refused}
+use Rattle.balkreyn_c.proofs.Lemmas.{arith, ints}
+use Rattle.balkreyn_c.proofs.Repeats.{gone_more, gone_none, not_refused, stopped, whole}
 use Rattle.balkreyn_c.proofs.batches.repeat.Goals as goal
 
 pub loop-place-init : goal.loop-place-init

@@ -1,4 +1,4 @@
-use Rattle.std.proofs.Common.{sym, ◌∙◌}
+use Rattle.balkreyn_c.proofs.Lemmas.{◌∙◌, sym}
 use Rattle.balkreyn_c.proofs.Opened.{holds_none, opened}
 use Rattle.balkreyn_c.proofs.books.balkreyn_book_open.Goals as goal
 

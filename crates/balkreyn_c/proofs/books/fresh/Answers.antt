@@ -1,5 +1,5 @@
-use Rattle.std.proofs.Common.{refl, ap, ◌∙◌}
-use Rattle.balkreyn_c.specs.declared.timed.TimedRealm.{TimedRealm}
+use Rattle.balkreyn_c.specs.{TimedRealm}
+use Rattle.balkreyn_c.proofs.Lemmas.{◌∙◌, ap, refl}
 use Rattle.balkreyn_c.proofs.books.fresh.Goals as goal
 
 pub returns-in-Ok : goal.returns-in-Ok

@@ -1,6 +1,5 @@
-use Rattle.std.proofs.Common.{ℤ, Some, sym, subst, ap, w64, ◌∙◌}
-use Rattle.std.proofs.Math.Facts.{to_z-of_z}
-use Rattle.balkreyn_c.specs.Endings.{Ends}
+use Rattle.balkreyn_c.specs.{Ends}
+use Rattle.balkreyn_c.proofs.Lemmas.{ℤ, ◌∙◌, Some, ap, subst, sym, to_z-of_z, w64}
 use Rattle.balkreyn_c.proofs.Told.{told}
 use Rattle.balkreyn_c.proofs.endings.end_told.Goals as goal
 

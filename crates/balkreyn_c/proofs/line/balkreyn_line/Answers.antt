@@ -1,7 +1,5 @@
-use Rattle.std.proofs.Common.{ℤ, Some, sym, subst, ap, w64, ◌∙◌}
-use Rattle.std.proofs.Math.Facts.{to_z-of_z}
-use Rattle.script_words.specs.Lines.{line_said}
-use Rattle.balkreyn_c.specs.Doors.{DoesLine}
+use Rattle.balkreyn_c.specs.{DoesLine, line_said}
+use Rattle.balkreyn_c.proofs.Lemmas.{ℤ, ◌∙◌, Some, ap, subst, sym, to_z-of_z, w64}
 use Rattle.balkreyn_c.proofs.Doors.{took}
 use Rattle.balkreyn_c.proofs.line.balkreyn_line.Goals as goal
 

@@ -1,9 +1,7 @@
-use Rattle.std.proofs.Common.{ℤ, sym, subst, w64, to_z, of_z}
-use Rattle.std.proofs.Math.Facts.{to_z-of_z}
-use Rattle.script_words.specs.declared.commands.Line.{Line}
-use Rattle.script_words.specs.declared.commands.Line.TheVariants.{Command as command, BadWord}
-use Rattle.balkreyn_c.specs.Doors.{DoesLine}
+use Rattle.balkreyn_c.specs.{BadWord, DoesLine, Line}
+use Rattle.balkreyn_c.proofs.Lemmas.{ℤ, of_z, subst, sym, to_z, to_z-of_z, w64}
 use Rattle.balkreyn_c.proofs.Doors.{bad_word, replied}
+use Rattle.script_words.specs.declared.commands.Line.TheVariants.{Command as command}
 use Rattle.balkreyn_c.proofs.line.do_line.Goals as goal
 
 pub returns-in-BadWord : goal.returns-in-BadWord

@@ -1,4 +1,4 @@
-use Rattle.scope_script.proofs.Answered.{accepted}
+use Rattle.balkreyn_c.proofs.Lemmas.{accepted}
 use Rattle.balkreyn_c.proofs.Doors.{refused_as}
 use Rattle.balkreyn_c.proofs.line.try_event.Goals as goal
 

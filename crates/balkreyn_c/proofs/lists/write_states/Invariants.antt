@@ -1,6 +1,6 @@
 -- Those so far are written, and the others are as they were.
-use Rattle.std.proofs.Common.{◌≡◌, length, take, drop, map}
-use Rattle.balkreyn_c.specs.Joining.{of_state}
+use Rattle.std.proofs.Common.{◌≡◌, drop, length, map, take}
+use Rattle.balkreyn_c.specs.{of_state}
 use Rattle.balkreyn_c.proofs.lists.write_states.Given as goal
 
 abbrev pub invariant-loop-i : goal.invariant-loop-i

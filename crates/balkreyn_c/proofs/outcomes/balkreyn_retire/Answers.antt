@@ -1,5 +1,4 @@
-use Rattle.std.proofs.Common.{Some, sym, ap, w64, ◌∙◌}
-use Rattle.std.proofs.Math.Facts.{to_z-of_z}
+use Rattle.balkreyn_c.proofs.Lemmas.{◌∙◌, Some, ap, sym, to_z-of_z, w64}
 use Rattle.balkreyn_c.proofs.Acted.{let_go}
 use Rattle.balkreyn_c.proofs.outcomes.balkreyn_retire.Goals as goal
 

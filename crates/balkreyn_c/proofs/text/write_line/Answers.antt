@@ -1,10 +1,7 @@
 -- A line that was put together in place.
-use Rattle.std.proofs.Common.{◌≡◌, ℕ, pos, ◌∷◌, [], ◌++◌, List, length, ◌∙◌, ap, w64}
-use Rattle.std.proofs.Math.Facts.{to_z-of_z}
-use Rattle.std.proofs.lemmas.Fmt.{contents_after_writes}
-use Rattle.arrayvec.specs.declared.array_string.ArrayString.{ArrayString}
-use Rattle.script_words.specs.ReplyText.{reply_text}
-use Rattle.balkreyn_c.specs.Asking.{text_in}
+use Rattle.std.proofs.Common.{[], ℕ, ◌++◌, ◌∙◌, ◌∷◌, ◌≡◌, List, ap, length, pos, w64}
+use Rattle.balkreyn_c.specs.{ArrayString, reply_text, text_in}
+use Rattle.balkreyn_c.proofs.Lemmas.{contents_after_writes, to_z-of_z}
 use Rattle.balkreyn_c.proofs.text.write_line.Goals as goal
 
 pub returns-in-Ok : goal.returns-in-Ok

@@ -1,30 +1,13 @@
 -- `seen` opens the reference, and lends its word to one step of the machine.
-use Rattle.std.proofs.Common.{◌≡◌, ℕ, ◌^◌, List, [], ◌∷◌, refl, lit<, w64}
-use Rattle.std.proofs.raw_atomic.Walks.{proved, leaves}
-use Rattle.std.proofs.raw_atomic.Calls.{fm, seq_cst, found, finds, loads}
-use base.Fraction.{full_share}
-use base.Logic.{SProp, emp, via}
-use base.Fml.{Fml, ftrue, fsep, feq, flft}
-use mir.Syntax.{named}
-use mir.Val.{Val, vint, vptr}
-use contract.Monad.{fact, fact_i}
-use contract.Running.{tables}
-use types.Kit.{‵, raw, ◌⊛◌, mean, at_ret, ◌$◌, ◌∵◌, !, qed, by, move, keep, split, join, fsplit, fsplit3, fjoin, fjoin3, feq_i, feq_l, flt_i, use0, use1, done}
-use types.Run.{enter, lit, addr, stop, no_more, and_then, of_opd, first, blocks, exec, Calls-last, returns}
-use types.ByLocal.{alloc_all, pass_all, free_all, look_at, get, through, sets, lands_last, env}
-use types.Part.{agg}
-use denote.Builtin.{u64}
-use denote.RawPtr.{block_ptr}
-use denote.Ref.{mut_vals, mut_Tells}
-use denote.RattleType.{owns}
-use denote.Signature.{types_at, plain}
-use denote.Steps.{nothing, opens, closes, tied, ties}
-use denote.Triple.Walked.{Stays, walk_of, stay_ref, Goes-ref}
-use Rattle.std.specs.Sync.RawAtomic.{word}
-use Rattle.balkreyn_c.proofs.Words.{owned_asks}
-use Rattle.balkreyn_c.specs.contracts.word.seen.{ended, clauses}
+use Rattle.std.proofs.Common.{[], ℕ, ◌^◌, ◌∷◌, ◌≡◌, List, lit<, refl, w64}
+use Rattle.balkreyn_c.specs.{contracts.word.seen.clauses, contracts.word.seen.ended, word}
+use Rattle.balkreyn_c.proofs.Lemmas.{ !, ‵, ◌$◌, ◌∵◌, ◌⊛◌, Calls-last, Fml, Goes-ref, SProp, Stays, Val, addr, agg, alloc_all, and_then, at_ret, block_ptr, blocks, by, closes, done, emp, enter, env, exec, fact, fact_i, feq, feq_i}
+use Rattle.balkreyn_c.proofs.Lemmas.{feq_l, finds, first, fjoin, fjoin3, flft, flt_i, fm, found, free_all, fsep, fsplit, fsplit3, ftrue, full_share, get, join, keep, lands_last, leaves, lit, loads, look_at, mean, move, mut_Tells}
+use Rattle.balkreyn_c.proofs.Lemmas.{mut_vals, named, no_more, nothing, of_opd, opens, owns, pass_all, plain, proved, qed, returns, seq_cst, sets, split, stay_ref, stop, tables, through, tied, ties, types_at, u64, use0, use1, via}
+use Rattle.balkreyn_c.proofs.Lemmas.{vint, vptr, walk_of}
+use Rattle.balkreyn_c.proofs.{Words.owned_asks, word.seen.Statement.statement}
+use types.Kit.{raw}
 use Rattle.balkreyn_c.specs.contracts.word.seen.Key.{name as #self}
-use Rattle.balkreyn_c.proofs.word.seen.Statement.{statement}
 use Rattle.balkreyn_c.proofs.word.seen.Code as code
 
 abbrev stayed : Stays ended.signature.params ended.kept

@@ -1,32 +1,13 @@
 -- `swapped` opens the reference, and lends its word to one step of the machine.
-use Rattle.std.proofs.Common.{◌≡◌, ℕ, ◌^◌, List, [], ◌∷◌, refl, lit<, w64}
-use Rattle.std.proofs.raw_atomic.Walks.{proved, leaves}
-use Rattle.std.proofs.raw_atomic.Calls.{fm, seq_cst, found, finds, swaps}
-use base.Fraction.{full_share}
-use base.Logic.{SProp, emp, via}
-use base.Fml.{Fml, ftrue, fsep, feq, flft}
-use mir.Syntax.{named}
-use mir.Val.{Val, vint, vptr}
-use contract.Monad.{fact, fact_i}
-use contract.Running.{tables}
-use types.Kit.{‵, raw, ◌⊛◌, mean, at_ret, ◌$◌, ◌∵◌, !, qed, by, move, keep, split, join, fsplit, fsplit3, fjoin, fjoin3, feq_i, feq_l, flt_i, use0, use1, drop, done}
-use types.Run.{enter, lit, addr, stop, no_more, and_then, of_opd, first, blocks, exec, Calls-last, returns}
-use types.ByLocal.{alloc_all, pass_all, free_all, look_at, get, through, sets, lands_last, env}
-use types.Part.{agg}
-use denote.Builtin.{u64}
-use denote.Exit.{yes}
-use denote.Plain.{uint_vals, uint_Tells}
-use denote.RawPtr.{block_ptr}
-use denote.Ref.{mut_vals, mut_Tells}
-use denote.RattleType.{owns}
-use denote.Signature.{types_at, plain}
-use denote.Steps.{nothing, opens, closes, tied, ties}
-use denote.Triple.Walked.{Stays, walk_of, stay_dropped, stay_ref, Goes-dropped, Goes-ref}
-use Rattle.std.specs.Sync.RawAtomic.{word}
-use Rattle.balkreyn_c.proofs.Words.{owned_asks}
-use Rattle.balkreyn_c.specs.contracts.word.swapped.{ended, clauses}
+use Rattle.std.proofs.Common.{[], ℕ, ◌^◌, ◌∷◌, ◌≡◌, List, lit<, refl, w64}
+use Rattle.balkreyn_c.specs.{contracts.word.swapped.clauses, contracts.word.swapped.ended, word}
+use Rattle.balkreyn_c.proofs.Lemmas.{ !, ‵, ◌$◌, ◌∵◌, ◌⊛◌, Calls-last, Fml, Goes-dropped, Goes-ref, SProp, Stays, Val, addr, agg, alloc_all, and_then, at_ret, block_ptr, blocks, by, closes, done, drop, emp, enter, env, exec, fact}
+use Rattle.balkreyn_c.proofs.Lemmas.{fact_i, feq, feq_i, feq_l, finds, first, fjoin, fjoin3, flft, flt_i, fm, found, free_all, fsep, fsplit, fsplit3, ftrue, full_share, get, join, keep, lands_last, leaves, lit, look_at, mean}
+use Rattle.balkreyn_c.proofs.Lemmas.{move, mut_Tells, mut_vals, named, no_more, nothing, of_opd, opens, owns, pass_all, plain, proved, qed, returns, seq_cst, sets, split, stay_dropped, stay_ref, stop, swaps, tables, through, tied}
+use Rattle.balkreyn_c.proofs.Lemmas.{ties, types_at, u64, uint_Tells, uint_vals, use0, use1, via, vint, vptr, walk_of, yes}
+use Rattle.balkreyn_c.proofs.{Words.owned_asks, word.swapped.Statement.statement}
+use types.Kit.{raw}
 use Rattle.balkreyn_c.specs.contracts.word.swapped.Key.{name as #self}
-use Rattle.balkreyn_c.proofs.word.swapped.Statement.{statement}
 use Rattle.balkreyn_c.proofs.word.swapped.Code as code
 
 abbrev stayed : Stays ended.signature.params ended.kept

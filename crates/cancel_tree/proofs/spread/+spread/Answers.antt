@@ -1,16 +1,10 @@
 -- Each turn leaves the first cancel at what is reached by way of the inner scopes so far.
-use Rattle.std.proofs.Common.{◌≡◌, ℕ, ◌-◌, ◌<◌, Bool, true, false, Option, None, is_none, is_some, not, List, length, slice_get, get_or, arith, ap, sym, ◌∙◌, subst}
-use Rattle.std.proofs.Math.ListN.{length-set}
-use Rattle.cancel_tree.specs.declared.rows.Links.{Links}
-use Rattle.cancel_tree.specs.declared.rows.ScopeNode.{ScopeNode}
-use Rattle.scope_rules.specs.declared.types.records.FirstCancel.{FirstCancel}
-use Rattle.cancel_tree.specs.Rows.{outer_of, own_of, IsAdded}
-use Rattle.cancel_tree.specs.Reach.{last_inner}
-use Rattle.cancel_tree.proofs.SpreadLaws.{IsSpreadUpTo, IsListedSoFar, first_link, next_link, next_falls, fewer, spread_start, spread_past, spread_inner}
-use Rattle.cancel_tree.proofs.RowLaws.{field_at}
-use Rattle.cancel_tree.proofs.ListLaws.{grown_twice}
+use Rattle.std.proofs.Common.{ℕ, ◌-◌, ◌<◌, ◌∙◌, ◌≡◌, Bool, List, None, Option, ap, arith, false, get_or, is_none, is_some, length, not, slice_get, subst, sym, true}
+use Rattle.cancel_tree.specs.{FirstCancel, IsAdded, Links, ScopeNode, last_inner, outer_of, own_of}
+use Rattle.cancel_tree.proofs.Words.{length-set}
+use Rattle.cancel_tree.proofs.{ListLaws.grown_twice, RowLaws.field_at, SpreadLaws.IsListedSoFar, SpreadLaws.IsSpreadUpTo, SpreadLaws.fewer, SpreadLaws.first_link, SpreadLaws.next_falls, SpreadLaws.next_link}
+use Rattle.cancel_tree.proofs.{SpreadLaws.spread_inner, SpreadLaws.spread_past, SpreadLaws.spread_start, spread.+spread.Goals.else-is_none, spread.+spread.Goals.then-is_none}
 use Rattle.cancel_tree.proofs.spread.+spread.Goals as goal
-use Rattle.cancel_tree.proofs.spread.+spread.Goals.{then-is_none, else-is_none}
 
 abbrev no_links : Links
 no_links = record { level = 0; first_inner = None; next_inner = None }

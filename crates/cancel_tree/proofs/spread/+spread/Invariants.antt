@@ -1,8 +1,7 @@
 -- The walk goes inwards, to greater numbers, and along the scopes inside one scope, to lower ones.
 use Rattle.std.proofs.Common.{◌-◌, length}
-use Rattle.cancel_tree.specs.Rows.{outer_of, own_of}
-use Rattle.cancel_tree.proofs.ReachLaws.{place}
-use Rattle.cancel_tree.proofs.SpreadLaws.{IsSpreadUpTo, IsListedSoFar}
+use Rattle.cancel_tree.specs.{outer_of, own_of}
+use Rattle.cancel_tree.proofs.{ReachLaws.place, SpreadLaws.IsListedSoFar, SpreadLaws.IsSpreadUpTo}
 use Rattle.cancel_tree.proofs.spread.+spread.Given as goal
 
 -- the scopes that are left inside a scope have greater numbers than it

@@ -1,9 +1,8 @@
 -- A scope without a first cancel is listed, and there is room for it.
-use Rattle.std.proofs.Common.{◌≡◌, suc, ◌-◌, ◌<◌, Some, None, not, [], ◌∷◌, ◌++◌, length, set, arith, ap, sym, ◌∙◌, subst}
-use Rattle.cancel_tree.specs.CancelOrder.{IsListOf}
-use Rattle.cancel_tree.proofs.ListLaws.{listed_put, listed_already, fewer_listed}
+use Rattle.std.proofs.Common.{[], ◌++◌, ◌-◌, ◌<◌, ◌∙◌, ◌∷◌, ◌≡◌, None, Some, ap, arith, length, not, set, subst, suc, sym}
+use Rattle.cancel_tree.specs.{IsListOf}
+use Rattle.cancel_tree.proofs.{ListLaws.fewer_listed, ListLaws.listed_already, ListLaws.listed_put, spread.put.Goals.else-is_none, spread.put.Goals.then-is_none}
 use Rattle.cancel_tree.proofs.spread.put.Goals as goal
-use Rattle.cancel_tree.proofs.spread.put.Goals.{then-is_none, else-is_none}
 
 pub push-requires : goal.push-requires
 push-requires c =

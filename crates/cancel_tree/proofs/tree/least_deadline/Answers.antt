@@ -1,9 +1,7 @@
 -- Each turn takes in the deadline of one scope, and goes on to the scope outside it.
-use Rattle.std.proofs.Common.{◌-◌, None, false, get_or, sym, ◌∙◌, length}
-use Rattle.cancel_tree.specs.declared.rows.ScopeNode.{ScopeNode}
-use Rattle.cancel_tree.specs.Rows.{outer, outer_of, deadline_of}
-use Rattle.cancel_tree.proofs.RowLaws.{field_at}
-use Rattle.cancel_tree.proofs.LeastLaws.{least_step, least_falls}
+use Rattle.std.proofs.Common.{◌-◌, ◌∙◌, None, false, get_or, length, sym}
+use Rattle.cancel_tree.specs.{ScopeNode, deadline_of, outer, outer_of}
+use Rattle.cancel_tree.proofs.{LeastLaws.least_falls, LeastLaws.least_step, RowLaws.field_at}
 use Rattle.cancel_tree.proofs.tree.least_deadline.Goals as goal
 
 abbrev no_told : ScopeNode

@@ -1,8 +1,7 @@
 -- The walk goes outwards, to lower numbers.
-use Rattle.std.proofs.Common.{length}
-use Rattle.cancel_tree.specs.Rows.{outer_of, deadline_of}
-use Rattle.cancel_tree.proofs.ReachLaws.{place}
-use Rattle.cancel_tree.proofs.LeastLaws.{IsLeastSoFar}
+use Rattle.cancel_tree.specs.{deadline_of, outer_of}
+use Rattle.cancel_tree.proofs.Words.{length}
+use Rattle.cancel_tree.proofs.{LeastLaws.IsLeastSoFar, ReachLaws.place}
 use Rattle.cancel_tree.proofs.tree.least_deadline.Given as goal
 
 abbrev pub invariant-loop-next : goal.invariant-loop-next

@@ -1,8 +1,7 @@
 -- The first places of the events so far, and one event more.
-use Rattle.std.proofs.Common.{◌≡◌, ◌+◌, get_or, length, refl, ap, ◌∙◌, arith, None}
-use Rattle.std.proofs.lemmas.Option.{slice_get_read}
-use Rattle.scope_rules.specs.Search.{earliest}
-use Rattle.run_times.specs.Landmarks.{first_place, noted_in, named_at}
+use Rattle.std.proofs.Common.{◌+◌, ◌∙◌, ◌≡◌, None, ap, arith, get_or, length, refl}
+use Rattle.run_times.specs.{earliest, first_place, named_at, noted_in}
+use Rattle.run_times.proofs.Words.{slice_get_read}
 use Rattle.run_times.proofs.Landed.{noted_more}
 use Rattle.run_times.proofs.landmarks.firsts_of.Goals as goal
 

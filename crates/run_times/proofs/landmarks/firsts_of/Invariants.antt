@@ -1,5 +1,5 @@
 -- The first places among the events so far.
-use Rattle.run_times.specs.Landmarks.{AreFirstsTo}
+use Rattle.run_times.specs.{AreFirstsTo}
 use Rattle.run_times.proofs.landmarks.firsts_of.Given as goal
 
 abbrev pub invariant-loop-place : goal.invariant-loop-place

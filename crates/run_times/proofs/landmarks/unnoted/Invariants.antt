@@ -1,5 +1,5 @@
 -- Nothing so far.
-use Rattle.run_times.specs.Landmarks.{IsUnnoted}
+use Rattle.run_times.specs.{IsUnnoted}
 use Rattle.run_times.proofs.landmarks.unnoted.Given as goal
 
 abbrev pub invariant-loop : goal.invariant-loop

@@ -1,6 +1,6 @@
 -- Those with the numbers so far.
 use Rattle.std.proofs.Common.{◌≡◌}
-use Rattle.run_times.specs.Stamps.{opens_to}
+use Rattle.run_times.specs.{opens_to}
 use Rattle.run_times.proofs.stamps.open_times.Given as goal
 
 abbrev pub invariant-loop-index : goal.invariant-loop-index

@@ -1,6 +1,6 @@
 -- The place that is kept is the first one.
-use Rattle.std.proofs.Common.{sym}
-use Rattle.scope_rules.specs.History.{opened_count}
+use Rattle.run_times.specs.{opened_count}
+use Rattle.run_times.proofs.Words.{sym}
 use Rattle.run_times.proofs.Placed.{index_of, kept_place}
 use Rattle.run_times.specs.declared.landmarks.Landmark.TheVariants as landmark
 use Rattle.run_times.proofs.turns.closed_at.Goals as goal

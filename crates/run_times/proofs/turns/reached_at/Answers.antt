@@ -1,5 +1,5 @@
 -- The place that is kept is the first one.
-use Rattle.scope_rules.specs.History.{forked_count}
+use Rattle.run_times.specs.{forked_count}
 use Rattle.run_times.proofs.Placed.{kept_place, task_index}
 use Rattle.run_times.proofs.turns.reached_at.Goals as goal
 

@@ -1,9 +1,7 @@
 -- An accepted open and fork have a number for what they make, and what is closed was opened.
-use Rattle.std.proofs.Common.{◌≡◌, Ok, IsSome, refl, ap, sym, subst, ◌∙◌, arith}
-use Rattle.scope_rules.specs.declared.types.events.Event.TheVariants.{Open, Fork, EndClose}
-use Rattle.scope_rules.specs.Table.{check_of}
-use Rattle.scope_rules.proofs.Pushing.{open_number, fork_number}
-use Rattle.scope_rules.proofs.PassedRows.{end_close_passed}
+use Rattle.std.proofs.Common.{◌∙◌, ◌≡◌, IsSome, Ok, ap, arith, refl, subst, sym}
+use Rattle.scope_checks.specs.{EndClose, Fork, Open, check_of}
+use Rattle.scope_checks.proofs.Words.{end_close_passed, fork_number, open_number}
 use Rattle.scope_checks.proofs.Remade.{row_passes}
 use Rattle.scope_checks.proofs.table.try_event.Goals as goal
 

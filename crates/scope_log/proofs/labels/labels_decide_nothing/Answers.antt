@@ -1,5 +1,4 @@
-use Rattle.scope_log.proofs.Unchanged.{nothing_is_taken}
-use Rattle.scope_log.proofs.Checks.{labels_decide_nothing, legal_without}
+use Rattle.scope_log.proofs.{Checks.labels_decide_nothing, Checks.legal_without, Unchanged.nothing_is_taken}
 use Rattle.scope_log.proofs.labels.labels_decide_nothing.Goals as goal
 
 pub returns-clause-decided : goal.returns-clause-decided

@@ -1,4 +1,4 @@
-use Rattle.scope_log.proofs.LogTells.{tells_outcome, tells_next}
+use Rattle.scope_log.proofs.LogTells.{tells_next, tells_outcome}
 use Rattle.scope_log.proofs.laws.logs_tell_outcomes.Goals as goal
 
 pub returns-clause-joined : goal.returns-clause-joined

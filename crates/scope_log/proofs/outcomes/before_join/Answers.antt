@@ -1,6 +1,6 @@
 -- If a join was found, one stands among the entries.
-use Rattle.std.proofs.Common.{sym, ◌∙◌}
-use Rattle.scope_log.specs.LocalForms.{is_join}
+use Rattle.scope_log.specs.{is_join}
+use Rattle.scope_log.proofs.Words.{◌∙◌, sym}
 use Rattle.scope_log.proofs.FirstParts.{first_found}
 use Rattle.scope_log.proofs.outcomes.before_join.Goals as goal
 

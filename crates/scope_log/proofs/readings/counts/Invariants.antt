@@ -1,8 +1,6 @@
 -- The tasks of the entries so far were counted.
 use Rattle.std.proofs.Common.{◌≡◌, ◌≤◌, take}
-use Rattle.std.specs.List.{filter_map}
-use Rattle.scope_log.specs.Counting.{total}
-use Rattle.scope_log.specs.LocalForms.{task_forked, counts_of}
+use Rattle.scope_log.specs.{counts_of, filter_map, task_forked, total}
 use Rattle.scope_log.proofs.readings.counts.Given as goal
 
 abbrev pub invariant-loop-entry : goal.invariant-loop-entry

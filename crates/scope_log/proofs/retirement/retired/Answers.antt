@@ -1,4 +1,4 @@
-use Rattle.scope_log.proofs.Alike.{answers_alike, retired_again, leaves_the_base}
+use Rattle.scope_log.proofs.Alike.{answers_alike, leaves_the_base, retired_again}
 use Rattle.scope_log.proofs.retirement.retired.Goals as goal
 
 pub returns-clause-answers : goal.returns-clause-answers

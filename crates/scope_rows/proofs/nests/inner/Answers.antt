@@ -1,8 +1,6 @@
 -- The row has the owner, whose next scope is the one inside.
-use Rattle.std.proofs.Common.{ap, sym, ◌∙◌}
-use Rattle.std.specs.Option.{option_and_then}
-use Rattle.scope_rules.specs.declared.types.records.Opening.{Opening}
-use Rattle.scope_rules.specs.Nests.{next_unclosed, inner}
+use Rattle.scope_rows.specs.{Opening, inner, next_unclosed, option_and_then}
+use Rattle.scope_rows.proofs.Words.{◌∙◌, ap, sym}
 use Rattle.scope_rows.proofs.nests.inner.Goals as goal
 
 pub returns-in_err-row : goal.returns-in_err-row

@@ -1,7 +1,7 @@
 -- The walk goes down until it has come past the scope, or nothing is left.
-use Rattle.std.proofs.Common.{◌≡◌, subst, arith}
-use Rattle.scope_rules.specs.declared.types.capacity.TheConstants.{LEVEL_LIMIT}
-use Rattle.scope_rows.proofs.NestWalks.{AreWalked, walk_start, walk_on, walk_end, walk_past, walk_out}
+use Rattle.std.proofs.Common.{◌≡◌, arith, subst}
+use Rattle.scope_rows.specs.{LEVEL_LIMIT}
+use Rattle.scope_rows.proofs.NestWalks.{AreWalked, walk_end, walk_on, walk_out, walk_past, walk_start}
 use Rattle.scope_rows.proofs.nests.next_unclosed.Goals as goal
 
 pub loop-level-init : goal.loop-level-init

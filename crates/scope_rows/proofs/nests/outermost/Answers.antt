@@ -1,5 +1,5 @@
 -- The outermost scope is the first after none.
-use Rattle.std.proofs.Common.{◌∙◌}
+use Rattle.scope_rows.proofs.Words.{◌∙◌}
 use Rattle.scope_rows.proofs.FirstUnclosed.{outermost_is}
 use Rattle.scope_rows.proofs.nests.outermost.Goals as goal
 

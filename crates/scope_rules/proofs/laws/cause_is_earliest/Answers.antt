@@ -1,5 +1,4 @@
-use Rattle.scope_rules.specs.Cancels.{own_cancel, first_cancel}
-use Rattle.scope_rules.specs.Scopes.{outer, chain}
+use Rattle.scope_rules.specs.{chain, first_cancel, outer, own_cancel}
 use Rattle.scope_rules.proofs.EarliestLaws.{cancel_earliest}
 use Rattle.scope_rules.proofs.laws.cause_is_earliest.Goals as goal
 

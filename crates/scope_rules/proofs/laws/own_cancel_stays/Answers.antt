@@ -1,4 +1,4 @@
-use Rattle.scope_rules.proofs.Growing.{own_stays, own_grows}
+use Rattle.scope_rules.proofs.Growing.{own_grows, own_stays}
 use Rattle.scope_rules.proofs.laws.own_cancel_stays.Goals as goal
 
 pub returns-clause-stays : goal.returns-clause-stays

@@ -1,10 +1,8 @@
 -- The first pair from the end that has the key is the last one that has it.
-use Rattle.std.proofs.Common.{rules, ◌≡◌, refl, ap, ◌∙◌, Option, None, Some, Bor}
-use Rattle.scope_rules.specs.declared.types.events.Binding.{Binding}
-use Rattle.std.specs.Option.{option_map}
-use Rattle.std.proofs.lemmas.Iterator.Search.{find_from_yields_List}
-use Rattle.std.proofs.lemmas.Iterator.Adapters.{YieldsList-from_rev_slice}
-use Rattle.scoped_env.proofs.Lookups.{bound_to-find, has_key, value_of, told_same}
+use Rattle.std.proofs.Common.{◌∙◌, ◌≡◌, Bor, None, Option, Some, ap, refl, rules}
+use Rattle.scoped_env.specs.{Binding, option_map}
+use Rattle.scoped_env.proofs.Words.{YieldsList-from_rev_slice, find_from_yields_List}
+use Rattle.scoped_env.proofs.Lookups.{bound_to-find, has_key, told_same, value_of}
 use Rattle.scoped_env.proofs.keys.last_value.Goals as goal
 
 twice : (o : Option (Bor Binding)) → option_map (λ y. y.now.value) o ≡ option_map value_of (option_map (λ y. y.now) o)

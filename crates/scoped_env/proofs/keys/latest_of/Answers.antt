@@ -1,7 +1,6 @@
 -- Each pair gives its key its value.
-use Rattle.std.proofs.Common.{refl, length}
-use Rattle.std.proofs.lemmas.Option.{slice_get_read}
-use Rattle.scoped_env.proofs.Indexing.{latest_none, latest_next, writes_of}
+use Rattle.scoped_env.proofs.Words.{length, refl, slice_get_read}
+use Rattle.scoped_env.proofs.Indexing.{latest_next, latest_none, writes_of}
 use Rattle.scoped_env.proofs.keys.latest_of.Goals as goal
 
 pub loop-pair-init : goal.loop-pair-init

@@ -1,6 +1,6 @@
 -- The index has the values by the pairs so far.
-use Rattle.std.proofs.Common.{take}
-use Rattle.scoped_env.specs.Keys.{HasLatest}
+use Rattle.scoped_env.specs.{HasLatest}
+use Rattle.scoped_env.proofs.Words.{take}
 use Rattle.scoped_env.proofs.keys.latest_of.Given as goal
 
 abbrev pub invariant-loop-pair : goal.invariant-loop-pair

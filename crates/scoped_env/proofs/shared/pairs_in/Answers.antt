@@ -1,6 +1,6 @@
 -- Each batch is added whole.
-use Rattle.std.proofs.Common.{length, ap, sym, refl, ◌∙◌, ◌++◌}
-use Rattle.std.proofs.lemmas.Option.{slice_get_read}
+use Rattle.std.proofs.Common.{◌++◌, ◌∙◌, ap, length, refl, sym}
+use Rattle.scoped_env.proofs.Words.{slice_get_read}
 use Rattle.scoped_env.proofs.Batches.{joined_next}
 use Rattle.scoped_env.proofs.shared.pairs_in.Goals as goal
 

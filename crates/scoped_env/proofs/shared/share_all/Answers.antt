@@ -1,7 +1,7 @@
 -- Each batch comes behind the others.
-use Rattle.std.proofs.Common.{length, take, ap, sym, refl, ◌∙◌, ◌++◌, append_assoc}
-use Rattle.std.proofs.lemmas.Option.{slice_get_read}
-use Rattle.scoped_env.specs.Joined.{joined}
+use Rattle.std.proofs.Common.{◌++◌, ◌∙◌, ap, append_assoc, length, refl, sym, take}
+use Rattle.scoped_env.specs.{joined}
+use Rattle.scoped_env.proofs.Words.{slice_get_read}
 use Rattle.scoped_env.proofs.Batches.{joined_more, joined_next}
 use Rattle.scoped_env.proofs.shared.share_all.Goals as goal
 

@@ -1,6 +1,6 @@
 -- The others, and the batches so far.
-use Rattle.std.proofs.Common.{◌≡◌, ◌++◌, take}
-use Rattle.scoped_env.specs.Joined.{joined}
+use Rattle.std.proofs.Common.{◌++◌, ◌≡◌, take}
+use Rattle.scoped_env.specs.{joined}
 use Rattle.scoped_env.proofs.shared.share_all.Given as goal
 
 abbrev pub invariant-loop-batch : goal.invariant-loop-batch

@@ -1,7 +1,7 @@
 -- The last of the batches that are left has a pair with the key, or it needs no look.
-use Rattle.std.proofs.Common.{◌-◌, length, sym, ◌∙◌, arith, refl}
-use Rattle.std.proofs.lemmas.Option.{slice_get_read}
-use Rattle.scoped_env.proofs.Batches.{found_last, not_last, none_left}
+use Rattle.std.proofs.Common.{◌-◌, ◌∙◌, arith, length, refl, sym}
+use Rattle.scoped_env.proofs.Words.{slice_get_read}
+use Rattle.scoped_env.proofs.Batches.{found_last, none_left, not_last}
 use Rattle.scoped_env.proofs.shared.value_in.Goals as goal
 
 pub returns-then-is_some : goal.returns-then-is_some

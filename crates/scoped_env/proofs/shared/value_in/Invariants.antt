@@ -1,7 +1,6 @@
 -- The batches behind those that are left have no pair with the key.
 use Rattle.std.proofs.Common.{◌≡◌, ◌≤◌, length, take}
-use Rattle.scope_rules.specs.Bindings.{bound_to}
-use Rattle.scoped_env.specs.Joined.{joined}
+use Rattle.scoped_env.specs.{bound_to, joined}
 use Rattle.scoped_env.proofs.shared.value_in.Given as goal
 
 abbrev pub invariant-loop-left : goal.invariant-loop-left

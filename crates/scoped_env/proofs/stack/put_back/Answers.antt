@@ -1,7 +1,6 @@
 -- The index is written at the key alone.
-use Rattle.std.proofs.Common.{ap, sym, ◌∙◌, Some, None, cond}
-use Rattle.scope_rules.specs.Names.{same_name}
-use Rattle.scoped_env.specs.Keys.{value_in}
+use Rattle.scoped_env.specs.{same_name, value_in}
+use Rattle.scoped_env.proofs.Words.{◌∙◌, None, Some, ap, cond, sym}
 use Rattle.scoped_env.proofs.Indexing.{writes_of, written}
 use Rattle.scoped_env.proofs.stack.put_back.Goals as goal
 

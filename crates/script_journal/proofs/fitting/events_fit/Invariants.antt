@@ -1,7 +1,6 @@
 -- The events before the index fit.
-use Rattle.std.proofs.Common.{◌≡◌, ℕ, ◌<◌, Some, slice_get}
-use Rattle.scope_rules.specs.declared.types.events.Event.{Event}
-use Rattle.script_journal.specs.Journals.{Fits}
+use Rattle.std.proofs.Common.{ℕ, ◌<◌, ◌≡◌, Some, slice_get}
+use Rattle.script_journal.specs.{Event, Fits}
 use Rattle.script_journal.proofs.fitting.events_fit.Given as goal
 
 abbrev pub invariant-loop-event : goal.invariant-loop-event

@@ -1,7 +1,6 @@
 -- The pairs before the index fit.
-use Rattle.std.proofs.Common.{◌≡◌, ℕ, ◌<◌, Some, slice_get}
-use Rattle.scope_rules.specs.declared.types.events.Binding.{Binding}
-use Rattle.script_words.specs.Spelling.{IsValue}
+use Rattle.std.proofs.Common.{ℕ, ◌<◌, ◌≡◌, Some, slice_get}
+use Rattle.script_journal.specs.{Binding, IsValue}
 use Rattle.script_journal.proofs.fitting.pairs_fit.Given as goal
 
 abbrev pub invariant-loop-pair : goal.invariant-loop-pair

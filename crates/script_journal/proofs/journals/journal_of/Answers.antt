@@ -1,6 +1,5 @@
-use Rattle.std.proofs.Common.{string_bytes, ◌∙◌}
-use Rattle.script_journal.proofs.Renumbered.{text_brings}
-use Rattle.script_journal.proofs.Running.{text_runs}
+use Rattle.script_journal.proofs.Lemmas.{◌∙◌, string_bytes}
+use Rattle.script_journal.proofs.{Renumbered.text_brings, Running.text_runs}
 use Rattle.script_journal.proofs.journals.journal_of.Goals as goal
 
 pub returns-clause-runs : goal.returns-clause-runs

@@ -1,5 +1,4 @@
-use Rattle.script_journal.proofs.RaisedLegal.{numbers_decide_nothing}
-use Rattle.script_journal.proofs.Renumbered.{brings_anew, counts_anew}
+use Rattle.script_journal.proofs.{RaisedLegal.numbers_decide_nothing, Renumbered.brings_anew, Renumbered.counts_anew}
 use Rattle.script_journal.proofs.laws.journal_counts_from_its_base.Goals as goal
 
 pub returns-clause-legal : goal.returns-clause-legal

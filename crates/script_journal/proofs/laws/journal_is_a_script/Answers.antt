@@ -1,5 +1,4 @@
-use Rattle.script_journal.proofs.Again.{journal_stays, journal_tells_all}
-use Rattle.script_journal.proofs.Running.{journal_is_a_script}
+use Rattle.script_journal.proofs.{Again.journal_stays, Again.journal_tells_all, Running.journal_is_a_script}
 use Rattle.script_journal.proofs.laws.journal_is_a_script.Goals as goal
 
 pub returns-clause-runs : goal.returns-clause-runs

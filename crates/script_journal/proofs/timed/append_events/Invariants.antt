@@ -1,7 +1,6 @@
 -- Those so far.
-use Rattle.std.proofs.Common.{◌≡◌, ◌++◌, string_bytes}
-use Rattle.std.specs.List.{flat_map, range_with_len}
-use Rattle.script_journal.specs.Timed.{timed_line}
+use Rattle.std.proofs.Common.{◌++◌, ◌≡◌, string_bytes}
+use Rattle.script_journal.specs.{flat_map, range_with_len, timed_line}
 use Rattle.script_journal.proofs.timed.append_events.Given as goal
 
 abbrev pub invariant-loop-place : goal.invariant-loop-place

@@ -1,4 +1,4 @@
-use Rattle.std.proofs.Common.{◌≢◌, ℕ, ◌<◌, get_or}
+use Rattle.std.proofs.Common.{ℕ, ◌<◌, ◌≢◌, get_or}
 use Rattle.script_words.proofs.fields.field_len.Given as goal
 
 abbrev pub invariant-loop-index : goal.invariant-loop-index

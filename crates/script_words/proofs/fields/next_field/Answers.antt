@@ -1,5 +1,5 @@
+use Rattle.script_words.proofs.Lemmas.{arith}
 use Rattle.script_words.proofs.FieldSteps.{next_some}
-use Rattle.std.proofs.Common.{arith}
 use Rattle.script_words.proofs.fields.next_field.Goals as goal
 
 pub returns : goal.returns

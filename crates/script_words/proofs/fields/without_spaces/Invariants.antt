@@ -1,5 +1,5 @@
 use Rattle.std.proofs.Common.{◌≡◌, ◌≤◌, length}
-use Rattle.script_words.specs.Fields.{without_spaces}
+use Rattle.script_words.specs.{without_spaces}
 use Rattle.script_words.proofs.fields.without_spaces.Given as goal
 
 abbrev pub invariant-loop-rest : goal.invariant-loop-rest

@@ -1,6 +1,6 @@
 -- What the rows that are left have beside the word, the whole table has beside it.
 use Rattle.std.proofs.Common.{◌≡◌, length}
-use Rattle.script_words.specs.Keywords.{keyword_beside}
+use Rattle.script_words.specs.{keyword_beside}
 use Rattle.script_words.proofs.keywords.keyword_beside.Given as goal
 
 abbrev pub invariant-loop-rows : goal.invariant-loop-rows

@@ -1,5 +1,5 @@
 -- The word stands in the table of its length, or in none.
-use Rattle.std.proofs.Common.{◌∙◌}
+use Rattle.script_words.proofs.Lemmas.{◌∙◌}
 use Rattle.script_words.proofs.KeywordLengths.{said_by_length}
 use Rattle.script_words.proofs.keywords.keyword_of.Goals as goal
 

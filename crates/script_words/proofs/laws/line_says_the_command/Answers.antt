@@ -1,5 +1,4 @@
-use Rattle.script_words.proofs.SpelledCommands.{words_say_the_command}
-use Rattle.script_words.proofs.SpelledLines.{line_says_the_command}
+use Rattle.script_words.proofs.{SpelledCommands.words_say_the_command, SpelledLines.line_says_the_command}
 use Rattle.script_words.proofs.laws.line_says_the_command.Goals as goal
 
 pub returns-clause-words : goal.returns-clause-words

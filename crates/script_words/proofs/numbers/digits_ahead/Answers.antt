@@ -1,8 +1,6 @@
 -- What is said of the word, once its end or a byte too many is met.
-use Rattle.std.proofs.Common.{◌≢◌, ◌≡◌, get_or, length, sym, ◌∙◌, arith}
-use Rattle.script_words.proofs.FieldSteps.{first_space}
-use Rattle.script_words.proofs.Numerals.{digits_of_more, value_of_more}
-use Rattle.script_words.proofs.DigitsAhead.{no_space_more, no_digits, word_at_least}
+use Rattle.std.proofs.Common.{◌∙◌, ◌≡◌, ◌≢◌, arith, get_or, length, sym}
+use Rattle.script_words.proofs.{DigitsAhead.no_digits, DigitsAhead.no_space_more, DigitsAhead.word_at_least, FieldSteps.first_space, Numerals.digits_of_more, Numerals.value_of_more}
 use Rattle.script_words.proofs.numbers.digits_ahead.Goals as goal
 
 pub returns-in_err-checked_mul-clause-none : goal.returns-in_err-checked_mul-clause-none

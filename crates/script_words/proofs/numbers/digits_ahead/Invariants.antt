@@ -1,7 +1,5 @@
-use Rattle.std.proofs.Common.{◌≡◌, ◌≢◌, ℕ, ◌<◌, true, get_or, take}
-use Rattle.std.specs.Char.{is_ascii_digit}
-use Rattle.std.specs.List.{list_all}
-use Rattle.std.specs.Str.Parse.{digits_value}
+use Rattle.std.proofs.Common.{ℕ, ◌<◌, ◌≡◌, ◌≢◌, get_or, take, true}
+use Rattle.script_words.specs.{digits_value, is_ascii_digit, list_all}
 use Rattle.script_words.proofs.numbers.digits_ahead.Given as goal
 
 -- the bytes so far are digits, and the value is theirs

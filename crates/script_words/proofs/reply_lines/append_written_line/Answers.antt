@@ -1,8 +1,7 @@
 -- A line that was put together in place.
-use Rattle.std.proofs.Common.{◌≡◌, ◌∷◌, [], ◌++◌, ◌∙◌, ap, sym, append_assoc, rules}
-use Rattle.std.proofs.lemmas.Fmt.{contents_after_writes}
-use Rattle.arrayvec.specs.declared.array_string.ArrayString.{ArrayString}
-use Rattle.script_words.specs.ReplyText.{reply_text}
+use Rattle.std.proofs.Common.{[], ◌++◌, ◌∙◌, ◌∷◌, ◌≡◌, ap, append_assoc, rules, sym}
+use Rattle.script_words.specs.{ArrayString, reply_text}
+use Rattle.script_words.proofs.Lemmas.{contents_after_writes}
 use Rattle.script_words.proofs.reply_lines.append_written_line.Goals as goal
 
 pub returns-in-Ok-clause-ok : goal.returns-in-Ok-clause-ok

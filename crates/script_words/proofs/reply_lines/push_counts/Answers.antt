@@ -1,5 +1,5 @@
 -- A line of four numbers, which is put together from the left.
-use Rattle.std.proofs.Common.{◌≡◌, ℕ, List, [], ◌∷◌, ◌++◌, ◌∙◌, ap, append_assoc}
+use Rattle.std.proofs.Common.{[], ℕ, ◌++◌, ◌∙◌, ◌∷◌, ◌≡◌, List, ap, append_assoc}
 use Rattle.script_words.proofs.reply_lines.push_counts.Goals as goal
 
 -- words and a number more

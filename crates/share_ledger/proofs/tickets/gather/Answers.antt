@@ -1,7 +1,6 @@
-use Rattle.std.proofs.Common.{arith}
-use Rattle.share_ledger.specs.Tickets.{given_in, started_in, finished_in}
-use Rattle.share_ledger.specs.Values.{TicketValue}
-use Rattle.share_ledger.proofs.Sums.{sum_bounded, one_at_most}
+use Rattle.share_ledger.specs.{TicketValue, finished_in, given_in, started_in}
+use Rattle.share_ledger.proofs.Words.{arith}
+use Rattle.share_ledger.proofs.Sums.{one_at_most, sum_bounded}
 use Rattle.share_ledger.proofs.tickets.gather.Goals as goal
 
 pub overflow_add-totals : goal.overflow_add-totals

@@ -1,6 +1,5 @@
 use Rattle.std.proofs.Common.{◌≡◌, take}
-use Rattle.std.specs.List.{sum_by}
-use Rattle.share_ledger.specs.Values.{given_count, started_count, finished_count}
+use Rattle.share_ledger.specs.{finished_count, given_count, started_count, sum_by}
 use Rattle.share_ledger.proofs.tickets.gather.Given as goal
 
 abbrev pub invariant-loop-ticket : goal.invariant-loop-ticket

@@ -1,8 +1,6 @@
 -- The scopes so far.
-use Rattle.std.proofs.Common.{◌≡◌, ◌++◌, ◌+◌, string_bytes}
-use Rattle.std.specs.List.{flat_map, range_with_len}
-use Rattle.tree_dump.specs.Ages.{clock_of}
-use Rattle.tree_dump.specs.TreeParts.{awaited_scope}
+use Rattle.std.proofs.Common.{◌++◌, ◌+◌, ◌≡◌, string_bytes}
+use Rattle.tree_dump.specs.{awaited_scope, clock_of, flat_map, range_with_len}
 use Rattle.tree_dump.proofs.parts.append_awaited.Given as goal
 
 abbrev pub invariant-loop-index : goal.invariant-loop-index

@@ -1,11 +1,7 @@
 -- Each task that waits or runs adds its line.
-use Rattle.std.proofs.Common.{◌∙◌, ◌++◌, ap, sym, arith, string_bytes, append-nil}
-use Rattle.std.specs.List.{flat_map}
-use Rattle.scope_rules.specs.Nests.{tasks_of}
-use Rattle.tree_dump.specs.Ages.{clock_of}
-use Rattle.tree_dump.specs.TreeParts.{awaited_task}
-use Rattle.tree_dump.proofs.Parted.{task_more}
-use Rattle.tree_dump.proofs.TextWalked.{all_before, all_below, none_if}
+use Rattle.std.proofs.Common.{◌++◌, ◌∙◌, ap, append-nil, arith, string_bytes, sym}
+use Rattle.tree_dump.specs.{awaited_task, clock_of, flat_map, tasks_of}
+use Rattle.tree_dump.proofs.{Parted.task_more, TextWalked.all_before, TextWalked.all_below, TextWalked.none_if}
 use Rattle.tree_dump.proofs.parts.append_awaited_tasks.Goals as goal
 
 pub loop-index-init : goal.loop-index-init

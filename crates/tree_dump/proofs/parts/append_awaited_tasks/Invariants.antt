@@ -1,9 +1,6 @@
 -- The tasks so far.
-use Rattle.std.proofs.Common.{◌≡◌, ◌++◌, take, string_bytes}
-use Rattle.std.specs.List.{flat_map}
-use Rattle.scope_rules.specs.Nests.{tasks_of}
-use Rattle.tree_dump.specs.Ages.{clock_of}
-use Rattle.tree_dump.specs.TreeParts.{awaited_task}
+use Rattle.std.proofs.Common.{◌++◌, ◌≡◌, string_bytes, take}
+use Rattle.tree_dump.specs.{awaited_task, clock_of, flat_map, tasks_of}
 use Rattle.tree_dump.proofs.parts.append_awaited_tasks.Given as goal
 
 abbrev pub invariant-loop-index : goal.invariant-loop-index

@@ -1,8 +1,6 @@
 -- The sums so far.
-use Rattle.std.proofs.Common.{◌≡◌, ◌+◌}
-use Rattle.std.specs.Prelude.{fold}
-use Rattle.std.specs.List.{range_with_len}
-use Rattle.tree_dump.specs.TreeParts.{no_sums, with_scope}
+use Rattle.std.proofs.Common.{◌+◌, ◌≡◌, fold}
+use Rattle.tree_dump.specs.{no_sums, range_with_len, with_scope}
 use Rattle.tree_dump.proofs.parts.sums_of.Given as goal
 
 abbrev pub invariant-loop-index : goal.invariant-loop-index

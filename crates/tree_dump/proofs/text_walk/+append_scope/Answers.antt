@@ -1,13 +1,10 @@
 -- Each task adds its lines, and then comes what lies inside the scope.
-use Rattle.std.proofs.Common.{◌≡◌, ℕ, List, ◌∙◌, ◌+◌, ◌-◌, ◌++◌, take, ap, sym, arith, string_bytes}
-use Rattle.std.proofs.lemmas.Result.{on_ok_weaker}
-use Rattle.scope_rules.specs.History.{History}
-use Rattle.scope_rules.specs.Nests.{tasks_of}
-use Rattle.tree_dump.specs.Ages.{clock_of}
-use Rattle.tree_dump.specs.TextTree.{nested, scope_line}
-use Rattle.tree_dump.proofs.TextWalked.{no_levels, no_scope, none_yet, task_more, all_below, none_if, all_before, scope_whole}
+use Rattle.std.proofs.Common.{ℕ, ◌++◌, ◌+◌, ◌-◌, ◌∙◌, ◌≡◌, List, ap, arith, string_bytes, sym, take}
+use Rattle.tree_dump.specs.{History, TextTree.nested, clock_of, scope_line, tasks_of}
+use Rattle.tree_dump.proofs.Lemmas.{on_ok_weaker}
+use Rattle.tree_dump.proofs.{TextWalked.all_before, TextWalked.all_below, TextWalked.no_levels, TextWalked.no_scope, TextWalked.none_if, TextWalked.none_yet, TextWalked.scope_whole, TextWalked.task_more}
+use Rattle.tree_dump.proofs.{text_walk.+append_scope.Goals.else-loop-index-test, text_walk.+append_scope.Goals.then-loop-index-test+in_default-task_at}
 use Rattle.tree_dump.proofs.text_walk.+append_scope.Goals as goal
-use Rattle.tree_dump.proofs.text_walk.+append_scope.Goals.{else-loop-index-test, then-loop-index-test+in_default-task_at}
 
 pub returns-then-levels-eq0 : goal.returns-then-levels-eq0
 returns-then-levels-eq0 g t c = no_levels (clock_of c.args.ages.now) (g.R.Readings.history c.args.readings.now) c.args.levels c.args.depth c.args.place (string_bytes c.args.text.now) (omega (arith, c.if-levels-eq0.true))

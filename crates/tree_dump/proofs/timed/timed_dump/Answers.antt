@@ -1,8 +1,6 @@
 -- The text of what was sent is that of the tree.
-use Rattle.std.proofs.Common.{string_bytes}
-use Rattle.serde_json.proofs.FreeTexts.{text_of_value}
-use Rattle.tree_dump.specs.Ages.{clock_of}
-use Rattle.tree_dump.specs.Timed.{timed_dump_data, timed_dump_text}
+use Rattle.tree_dump.specs.{clock_of, timed_dump_data, timed_dump_text}
+use Rattle.tree_dump.proofs.Lemmas.{string_bytes, text_of_value}
 use Rattle.tree_dump.proofs.Floats.{timed_whole}
 use Rattle.tree_dump.proofs.timed.timed_dump.Goals as goal
 

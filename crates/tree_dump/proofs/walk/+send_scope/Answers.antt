@@ -1,16 +1,8 @@
 -- What was sent is the object of what stands there.
-use Rattle.std.proofs.Common.{◌≡◌, ◌-◌, suc, Some, option_map, sym, ap, ◌∙◌, subst, arith}
-use Rattle.std.proofs.lemmas.Result.{on_ok_weaker}
-use Rattle.std.specs.Option.{option_map_or}
-use Rattle.scope_rules.specs.Nests.{inner, tasks_of}
-use Rattle.serde.specs.Event.{Logs, map_begins, seq_begins}
-use Rattle.serde_json.specs.Data.{null}
-use Rattle.serde_json.specs.Events.{SendsValue}
-use Rattle.tree_dump.specs.Ages.{clock_of, task_times}
-use Rattle.tree_dump.specs.Objects.{scope_object, task_object}
-use Rattle.tree_dump.specs.Tree.{nested, task_shown, tasks_shown}
-use Rattle.tree_dump.proofs.Sent.{scope_sent, task_sent, item_sent, items_end, shown_len}
-use Rattle.tree_dump.proofs.Walked.{nested_none, nested_absent, nested_shown}
+use Rattle.std.proofs.Common.{◌-◌, ◌∙◌, ◌≡◌, Some, ap, arith, option_map, subst, suc, sym}
+use Rattle.tree_dump.specs.{Logs, SendsValue, Tree.nested, clock_of, inner, map_begins, null, option_map_or, scope_object, seq_begins, task_object, task_shown, task_times, tasks_of, tasks_shown}
+use Rattle.tree_dump.proofs.Lemmas.{on_ok_weaker}
+use Rattle.tree_dump.proofs.{Sent.item_sent, Sent.items_end, Sent.scope_sent, Sent.shown_len, Sent.task_sent, Walked.nested_absent, Walked.nested_none, Walked.nested_shown}
 use Rattle.tree_dump.proofs.walk.+send_scope.Goals as goal
 
 pub send_scope-returns-then-levels-eq0 : goal.send_scope-returns-then-levels-eq0

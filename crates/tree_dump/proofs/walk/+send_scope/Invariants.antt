@@ -1,10 +1,5 @@
-use Rattle.std.proofs.Common.{◌+◌, ◌*◌, drop, map, option_map}
-use Rattle.scope_rules.specs.Nests.{tasks_of}
-use Rattle.serde.specs.Event.{Log}
-use Rattle.serde_json.specs.View.{items_of}
-use Rattle.serde_json.specs.Events.{SendsItems}
-use Rattle.tree_dump.specs.Ages.{clock_of}
-use Rattle.tree_dump.specs.Tree.{nested, task_shown}
+use Rattle.std.proofs.Common.{◌*◌, ◌+◌, drop, map, option_map}
+use Rattle.tree_dump.specs.{Log, SendsItems, Tree.nested, clock_of, items_of, task_shown, tasks_of}
 use Rattle.tree_dump.proofs.walk.+send_scope.Given as goal
 
 abbrev pub decreases-send_scope : goal.decreases-send_scope

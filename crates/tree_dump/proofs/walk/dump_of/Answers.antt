@@ -1,7 +1,6 @@
 -- The text of what was sent is that of the tree.
-use Rattle.std.proofs.Common.{string_bytes}
-use Rattle.serde_json.proofs.FreeTexts.{text_of_value}
-use Rattle.tree_dump.specs.Tree.{dump_data, dump_text}
+use Rattle.tree_dump.specs.{dump_data, dump_text}
+use Rattle.tree_dump.proofs.Lemmas.{string_bytes, text_of_value}
 use Rattle.tree_dump.proofs.Floats.{dump_whole}
 use Rattle.tree_dump.proofs.walk.dump_of.Goals as goal
 

@@ -1,44 +1,18 @@
 -- `drop` drops a place that owns nothing.
-use mathlib.Core.Path.{◌≡◌, refl, sym, subst}
-use mathlib.Core.List.{List, [], ◌∷◌, ◌++◌}
-use seplogic.Ra.Ura.{Ura}
-use lib.Dec.{T, lit<}
-use mir.Val.{Val, has_ty, WT, vstruct, vcons, vnil}
-use base.Logic.{SProp, ent}
-use base.Fml.{ftrue, fsep}
-use prog.Memory.{Memory}
-use prog.Routine.{Routine}
-use prog.Wp.{WpFn, Tables}
-use types.Logic.{Logic}
-use contract.Monad.{Fun}
-use contract.Running.{tables, tables_of}
-use sound.WpLaws.{WpFn-mono}
-use types.Kit.{Item, ‵, raw, ◌⊛◌, ◌$◌, ◌∵◌, !, qed, by, move, keep, drop, use1, join, split, fsplit, fjoin, fpack, feq_i, suffices, done}
-use types.Run.{of_opd, returns, enter}
-use types.ByLocal.{alloc_all, pass_all, free_all, look_at, sets}
-use denote.Exit.{yes}
-use denote.RawPtr.{null_ptr, ptr_val}
-use denote.Steps.{nothing}
-use denote.Triple.Spec.{triple_of}
-use denote.Triple.Table.{entered}
-use denote.Triple.Walked.{Stays, stay_dropped, walk_of, ends_at, Goes-dropped, walk_Meets}
-use Rattle.std.specs.Prelude.{IsNone}
-use Rattle.std.proofs.alloc.Calls.{α, Fits, handle_tells}
-use Rattle.std.proofs.ResultValues.{and_tt}
 use Rattle.std.proofs.BoxSteps.Form.{box_ty, box_typed}
+use Rattle.balkreyn_c.specs.{IsNone}
+use Rattle.balkreyn_c.proofs.Lemmas.{ !, [], α, ‵, ◌$◌, ◌∵◌, ◌⊛◌, Fits, Fun, Goes-dropped, Item, List, Logic, Memory, Ptr, Routine, SProp, Stays, T, Tables, Ura, Val, WT, WpFn, WpFn-mono, alloc_all, and_tt, block_ptr, by, done}
+use Rattle.balkreyn_c.proofs.Lemmas.{drop, ends_at, ent, enter, entered, fact, feq_i, feq_l, fjoin, fld, fpack, fpick, free_all, fsep, fsplit, ftrue, get_in, group, handle_tells, has_ty, join, keep, lit<, look_at, move, nothing}
+use Rattle.balkreyn_c.proofs.Lemmas.{null_ptr, of_list, of_opd, pass_all, ptr_val, qed, rawptr_Lawful, refl, returns, sets, split, stay_dropped, stop, sub, subst, suffices, sym, tables, tables_of, triple_of, unit_lit, use1, vcons}
+use Rattle.balkreyn_c.proofs.Lemmas.{vnil, vstruct, vunit, walk_Meets, walk_of, whole, yes}
 use Rattle.balkreyn_c.proofs.AsBox.{E}
+use mathlib.Core.{List.◌++◌, List.◌∷◌, Path.◌≡◌}
+use types.Kit.{raw}
 use Rattle.balkreyn_c.specs.contracts.place.Place as Place
 use Rattle.balkreyn_c.specs.contracts.place.Place.drop as F
 use Rattle.balkreyn_c.specs.contracts.place.Place.drop.Key.{name as #self}
 use Rattle.balkreyn_c.proofs.place.Place.drop.Statement as stated
 use Rattle.balkreyn_c.proofs.place.Place.drop.Code as code
-use mir.Val.{vunit, of_list}
-use contract.Monad.{fact}
-use types.Kit.{fpick, feq_l, group}
-use types.Part.{whole, sub}
-use types.Run.{unit_lit, stop, fld}
-use types.ByLocal.{get_in}
-use denote.RawPtr.{Ptr, block_ptr, rawptr_Lawful}
 use Rattle.balkreyn_c.proofs.AsBox.{FromPlace as From}
 
 abbrev stayed : Stays (F.ended).signature.params (F.ended).kept

@@ -1,39 +1,13 @@
 -- `empty` keeps a null pointer beside the handle, and owns nothing by it.
-use mathlib.Core.Path.{refl, sym, subst}
-use mathlib.Core.List.{List, [], ◌∷◌, ◌++◌}
-use seplogic.Ra.Ura.{Ura}
-use mir.Syntax.{w64}
-use lib.Dec.{T, lit<}
-use mir.Val.{Val, has_ty, WT, vint, vstruct, vcons, vnil}
-use base.Logic.{SProp, ent, emp, id⊢}
-use base.Fml.{ftrue, fsep}
-use prog.Memory.{Memory}
-use prog.Routine.{Routine}
-use prog.Wp.{WpFn, Tables}
-use types.Logic.{Logic}
-use contract.Monad.{Fun}
-use contract.Running.{tables, tables_of}
-use sound.WpLaws.{WpFn-mono}
-use types.Kit.{Item, ‵, raw, ◌⊛◌, ◌$◌, ◌∵◌, !, qed, by, move, keep, drop, use1, join, split, fsplit, fjoin, fpack, feq_i, suffices, done}
-use types.Part.{agg}
-use types.Run.{no_more, and_then, of_opd, lit, returns, enter}
-use types.ByLocal.{alloc_all, pass_all, free_all, look_at, get, sets}
-use denote.RattleType.{Valss}
-use denote.Exit.{yes}
-use denote.RawPtr.{RawPtr, null_ptr, ptr_val}
-use denote.Struct.Struct.{within}
-use denote.Struct.Owning.{shape, to}
-use denote.Signature.{Slot, plain}
-use denote.Steps.{nothing}
-use denote.Triple.Spec.{triple_of}
-use denote.Triple.Table.{entered}
-use denote.Triple.Walked.{says, Stays, stay_dropped, walk_of, ends_at, Goes-dropped, walk_Meets}
-use Rattle.std.proofs.Common.{None}
-use Rattle.std.proofs.alloc.Calls.{α, Fits, handle_tells}
-use Rattle.std.proofs.ResultValues.{and_tt}
 use Rattle.std.proofs.BoxSteps.Form.{box_ty}
-use Rattle.std_heap.specs.contracts.Global as Heap
+use Rattle.balkreyn_c.proofs.Lemmas.{ !, [], α, ‵, ◌$◌, ◌∵◌, ◌⊛◌, Fits, Fun, Goes-dropped, Item, List, Logic, Memory, None, RawPtr, Routine, SProp, Slot, Stays, T, Tables, Ura, Val, Valss, WT, WpFn, WpFn-mono, agg, alloc_all}
+use Rattle.balkreyn_c.proofs.Lemmas.{and_then, and_tt, by, done, drop, emp, ends_at, ent, enter, entered, feq_i, fjoin, fpack, free_all, fsep, fsplit, ftrue, get, handle_tells, has_ty, id⊢, join, keep, lit, lit<, look_at, move}
+use Rattle.balkreyn_c.proofs.Lemmas.{no_more, nothing, null_ptr, of_opd, pass_all, plain, ptr_val, qed, refl, returns, says, sets, shape, split, stay_dropped, subst, suffices, sym, tables, tables_of, to, triple_of, use1, vcons}
+use Rattle.balkreyn_c.proofs.Lemmas.{vint, vnil, vstruct, w64, walk_Meets, walk_of, within, yes}
 use Rattle.balkreyn_c.proofs.AsBox.{E}
+use mathlib.Core.List.{◌++◌, ◌∷◌}
+use types.Kit.{raw}
+use Rattle.std_heap.specs.contracts.Global as Heap
 use Rattle.balkreyn_c.specs.contracts.place.Place as Place
 use Rattle.balkreyn_c.specs.contracts.place.Place.empty as F
 use Rattle.balkreyn_c.specs.contracts.place.Place.empty.Key.{name as #self}

@@ -1,37 +1,14 @@
 -- `into_parts` moves two fields, and what they own goes with them.
-use mathlib.Core.Path.{refl, sym, subst}
-use mathlib.Core.List.{List, [], ◌∷◌, ◌++◌}
-use seplogic.Ra.Ura.{Ura}
-use mir.Val.{Val}
-use base.Logic.{SProp, ent, id⊢}
-use base.Fml.{ftrue, fsep}
-use prog.Memory.{Memory}
-use prog.Routine.{Routine}
-use prog.Wp.{WpFn, Tables}
-use types.Logic.{Logic}
-use contract.Monad.{Fun}
-use contract.Running.{tables, tables_of}
-use sound.WpLaws.{WpFn-mono}
-use types.Kit.{Item, ‵, raw, ◌⊛◌, ◌$◌, ◌∵◌, !, qed, by, move, drop, use1, join, split, fsplit, fjoin, suffices, done}
-use types.Part.{whole, sub, agg}
-use types.Run.{stop, fld, no_more, and_then, of_opd, returns, enter}
-use types.ByLocal.{alloc_all, pass_all, free_all, look_at, get, get_in, sets}
-use denote.Exit.{yes}
-use denote.Signature.{type_at}
-use denote.Steps.{nothing}
-use denote.Triple.Spec.{triple_of}
-use denote.Triple.Table.{entered}
-use denote.Triple.Walked.{says, Stays, stay_dropped, walk_of, ends_at, Goes-dropped, walk_Meets}
-use Rattle.std.proofs.Common.{Option}
-use Rattle.std.specs.Prelude.{IsSome}
-use Rattle.balkreyn_c.specs.Owning.{Timed}
+use Rattle.std.proofs.BoxSteps.{Form.B, Form.D, Form.box_typed, Form.word, Steps.box_in, Steps.box_out}
+use Rattle.balkreyn_c.specs.{IsSome, Owning.Timed}
+use Rattle.balkreyn_c.proofs.Lemmas.{ !, [], ‵, ◌$◌, ◌∵◌, ◌⊛◌, Fun, Goes-dropped, Item, List, Logic, Memory, Option, Routine, SProp, Stays, Tables, Ura, Val, WpFn, WpFn-mono, agg, alloc_all, and_then, by, done, drop, ends_at, ent}
+use Rattle.balkreyn_c.proofs.Lemmas.{enter, entered, fact, fjoin, fld, free_all, fsep, fsplit, ftrue, get, get_in, heard, id⊢, join, look_at, move, no_more, nothing, of_opd, pass_all, qed, refl, returns, rewrite, says, sets}
+use Rattle.balkreyn_c.proofs.Lemmas.{split, stay_dropped, stop, sub, subst, suffices, sym, tables, tables_of, triple_of, type_at, use1, walk_Meets, walk_of, whole, yes}
+use Rattle.balkreyn_c.proofs.AsBox.{E, there}
+use mathlib.Core.List.{◌++◌, ◌∷◌}
+use types.Kit.{raw}
 use Rattle.balkreyn_c.specs.contracts.place.Place as Place
-use contract.Monad.{fact}
-use denote.Steps.{heard}
-use types.Kit.{rewrite}
-use Rattle.std.proofs.BoxSteps.Form.{D, B, word, box_typed}
-use Rattle.std.proofs.BoxSteps.Steps.{box_out, box_in}
-use Rattle.balkreyn_c.proofs.AsBox.{E, FromPlace as From, there}
+use Rattle.balkreyn_c.proofs.AsBox.{FromPlace as From}
 use Rattle.balkreyn_c.specs.contracts.place.Place.into_parts as F
 use Rattle.balkreyn_c.specs.contracts.place.Place.into_parts.Key.{name as #self}
 use Rattle.balkreyn_c.proofs.place.Place.into_parts.Statement as stated

@@ -1,7 +1,6 @@
 -- The scope is listed last, in the run of its opening.
-use Rattle.std.proofs.Common.{cond, Some, [], ◌∷◌, ◌++◌, arith, ap, sym, ◌∙◌, subst}
-use Rattle.std.specs.Prelude.{IsPermutation}
-use Rattle.std.proofs.lemmas.List.Sorted.{length_permutation, IsPermutation-append_left}
+use Rattle.std.proofs.Common.{[], ◌++◌, ◌∙◌, ◌∷◌, IsPermutation, Some, ap, arith, cond, subst, sym}
+use Rattle.cancel_tree.proofs.Words.{IsPermutation-append_left, length_permutation}
 use Rattle.cancel_tree.proofs.RunLaws.{runs_push}
 use Rattle.cancel_tree.proofs.cancel_order.CancelOrder.add.Goals as goal
 

@@ -1,5 +1,5 @@
 -- The run before is put in order, and the new one begins at the end.
-use Rattle.std.proofs.Common.{rules, ◌≡◌, length, arith, refl}
+use Rattle.std.proofs.Common.{◌≡◌, arith, length, refl, rules}
 use Rattle.cancel_tree.proofs.RunLaws.{runs_begin}
 use Rattle.cancel_tree.proofs.cancel_order.CancelOrder.begin_run.Goals as goal
 

@@ -1,6 +1,6 @@
 -- The part of the list that was sorted is the last run.
 use Rattle.std.proofs.Common.{◌<◌, arith, refl}
-use Rattle.std.proofs.lemmas.List.Sorted.{IsNonDecreasingBy-from_sort}
+use Rattle.cancel_tree.proofs.Words.{IsNonDecreasingBy-from_sort}
 use Rattle.cancel_tree.proofs.RunLaws.{back_is, back_moved, part_moved, runs_sorted}
 use Rattle.cancel_tree.proofs.cancel_order.CancelOrder.sort_run.Goals as goal
 

@@ -1,10 +1,7 @@
 -- The new row is kept right, and the scope outside leads to it.
-use Rattle.std.proofs.Common.{rules, ◌≡◌, ℕ, ◌+◌, ◌≤◌, true, cond, not, Option, Some, None, [], ◌∷◌, ◌++◌, length, vec_capacity, ap, sym, subst, ◌∙◌}
-use Rattle.std.specs.Prelude.{IsPermutation}
-use Rattle.cancel_tree.specs.CancelOrder.{IsOnce, AreRuns, AreKept}
-use Rattle.cancel_tree.proofs.ListedLaws.{refused_same, listed_room, listed_added}
-use Rattle.cancel_tree.specs.declared.rows.Links.{Links}
-use Rattle.cancel_tree.proofs.AddLaws.{kept_new, outer_linked}
+use Rattle.std.proofs.Common.{[], ℕ, ◌++◌, ◌+◌, ◌∙◌, ◌∷◌, ◌≡◌, ◌≤◌, IsPermutation, None, Option, Some, ap, cond, length, not, rules, subst, sym, true, vec_capacity}
+use Rattle.cancel_tree.specs.{AreKept, AreRuns, IsOnce, Links}
+use Rattle.cancel_tree.proofs.{AddLaws.kept_new, AddLaws.outer_linked, ListedLaws.listed_added, ListedLaws.listed_room, ListedLaws.refused_same}
 use Rattle.cancel_tree.proofs.tree.Tree.add.Goals as goal
 
 abbrev no_links : Links

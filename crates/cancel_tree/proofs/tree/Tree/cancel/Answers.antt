@@ -1,14 +1,8 @@
 -- The first own cancel is put into the scope's row, and its first cancel at what it reaches if no earlier one is there.
-use Rattle.std.proofs.Common.{arith, length, take, drop, ◌++◌, ap, sym, ◌∙◌, subst}
-use Rattle.scope_rules.specs.Chains.{IsInward}
-use Rattle.cancel_tree.specs.Rows.{IsAdded, IsLatest, changed, with_own, cancel_at, outer_of, own_of}
-use Rattle.cancel_tree.specs.Reach.{IsSpread, reached, is_at_or_before}
-use Rattle.cancel_tree.specs.Columns.{IsLinked}
-use Rattle.cancel_tree.specs.CancelOrder.{IsListOf, AreKept}
-use Rattle.cancel_tree.proofs.ListLaws.{listed_moved}
-use Rattle.cancel_tree.proofs.ListedLaws.{listed_cancel, listed_later}
-use Rattle.cancel_tree.proofs.RowLaws.{outer_inward}
-use Rattle.cancel_tree.proofs.ColumnLaws.{kept_cancel, kept_later, kept_first_cancel, written_back, own_read, own_stays, none_from_test, rows_after, outers_after}
+use Rattle.std.proofs.Common.{◌++◌, ◌∙◌, ap, arith, drop, length, subst, sym, take}
+use Rattle.cancel_tree.specs.{AreKept, IsAdded, IsInward, IsLatest, IsLinked, IsListOf, IsSpread, cancel_at, changed, is_at_or_before, outer_of, own_of, reached, with_own}
+use Rattle.cancel_tree.proofs.{ColumnLaws.kept_cancel, ColumnLaws.kept_first_cancel, ColumnLaws.kept_later, ColumnLaws.none_from_test, ColumnLaws.outers_after, ColumnLaws.own_read, ColumnLaws.own_stays, ColumnLaws.rows_after}
+use Rattle.cancel_tree.proofs.{ColumnLaws.written_back, ListLaws.listed_moved, ListedLaws.listed_cancel, ListedLaws.listed_later, RowLaws.outer_inward}
 use Rattle.cancel_tree.proofs.tree.Tree.cancel.Goals as goal
 
 pub returns-then-is_some : goal.returns-then-is_some

@@ -1,5 +1,4 @@
-use Rattle.std.specs.Prelude.{is_some}
-use Rattle.cancel_tree.specs.Rows.{cancel_of, cancelled_at}
+use Rattle.cancel_tree.specs.{cancel_of, cancelled_at, is_some}
 use Rattle.cancel_tree.proofs.OrderLaws.{order_unique}
 use Rattle.cancel_tree.proofs.tree.Tree.cancel_order_is_one.Goals as goal
 

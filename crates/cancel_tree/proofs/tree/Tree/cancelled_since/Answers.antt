@@ -1,7 +1,7 @@
 -- The list is put in order, and the nodes are as they were.
-use Rattle.std.proofs.Common.{refl, subst}
-use Rattle.cancel_tree.specs.Order.{IsCancelOrder}
-use Rattle.cancel_tree.proofs.ListedLaws.{listed_order, cancel_order}
+use Rattle.cancel_tree.specs.{IsCancelOrder}
+use Rattle.cancel_tree.proofs.Words.{refl, subst}
+use Rattle.cancel_tree.proofs.ListedLaws.{cancel_order, listed_order}
 use Rattle.cancel_tree.proofs.tree.Tree.cancelled_since.Goals as goal
 
 pub invariant_of-self : goal.invariant_of-self

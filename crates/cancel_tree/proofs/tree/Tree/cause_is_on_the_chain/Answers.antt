@@ -1,4 +1,4 @@
-use Rattle.std.proofs.Common.{subst}
+use Rattle.cancel_tree.proofs.Words.{subst}
 use Rattle.cancel_tree.proofs.CauseLaws.{IsNamed, cause_on_chain}
 use Rattle.cancel_tree.proofs.tree.Tree.cause_is_on_the_chain.Goals as goal
 

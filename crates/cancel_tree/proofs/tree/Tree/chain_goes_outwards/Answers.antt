@@ -1,8 +1,6 @@
-use Rattle.std.proofs.Common.{subst}
-use Rattle.scope_rules.specs.Chains.{IsInward}
-use Rattle.cancel_tree.specs.Rows.{outer_of}
+use Rattle.cancel_tree.specs.{IsInward, outer_of}
+use Rattle.cancel_tree.proofs.Words.{chain_law, subst}
 use Rattle.cancel_tree.proofs.RowLaws.{outer_inward}
-use Rattle.scope_rules.proofs.ChainLaws.{chain_law}
 use Rattle.cancel_tree.proofs.tree.Tree.chain_goes_outwards.Goals as goal
 
 pub returns : goal.returns

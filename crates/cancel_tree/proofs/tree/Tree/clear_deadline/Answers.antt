@@ -1,10 +1,7 @@
 -- The row is changed in its deadline alone, and nothing that is kept rests on that.
-use Rattle.std.proofs.Common.{None, ap, sym, ◌∙◌, subst}
-use Rattle.cancel_tree.specs.Rows.{IsAdded, changed, with_deadline}
-use Rattle.cancel_tree.specs.CancelOrder.{AreKept}
-use Rattle.cancel_tree.proofs.RowLaws.{changed_set}
-use Rattle.cancel_tree.proofs.ColumnLaws.{kept_deadline}
-use Rattle.cancel_tree.proofs.ListedLaws.{listed_deadline}
+use Rattle.cancel_tree.specs.{AreKept, IsAdded, changed, with_deadline}
+use Rattle.cancel_tree.proofs.Words.{◌∙◌, None, ap, subst, sym}
+use Rattle.cancel_tree.proofs.{ColumnLaws.kept_deadline, ListedLaws.listed_deadline, RowLaws.changed_set}
 use Rattle.cancel_tree.proofs.tree.Tree.clear_deadline.Goals as goal
 
 pub invariant_of-self : goal.invariant_of-self

@@ -1,7 +1,6 @@
 -- Outer scopes have lower numbers.
-use Rattle.std.proofs.Common.{sym, subst}
-use Rattle.scope_rules.specs.Chains.{IsInward}
-use Rattle.cancel_tree.specs.Rows.{outer_of}
+use Rattle.cancel_tree.specs.{IsInward, outer_of}
+use Rattle.cancel_tree.proofs.Words.{subst, sym}
 use Rattle.cancel_tree.proofs.RowLaws.{outer_inward}
 use Rattle.cancel_tree.proofs.tree.Tree.effective_deadline.Goals as goal
 

@@ -1,9 +1,6 @@
-use Rattle.std.proofs.Common.{◌≤◌, sym, subst, ◌∙◌}
-use Rattle.std.specs.Option.{IfSome}
-use Rattle.cancel_tree.specs.Rows.{IsAdded}
-use Rattle.cancel_tree.proofs.RowLaws.{outer_inward}
-use Rattle.cancel_tree.proofs.ColumnLaws.{kept_first_cancel}
-use Rattle.cancel_tree.proofs.CauseLaws.{cancel_within}
+use Rattle.std.proofs.Common.{◌∙◌, ◌≤◌, subst, sym}
+use Rattle.cancel_tree.specs.{IfSome, IsAdded}
+use Rattle.cancel_tree.proofs.{CauseLaws.cancel_within, ColumnLaws.kept_first_cancel, RowLaws.outer_inward}
 use Rattle.cancel_tree.proofs.tree.Tree.first_cancel.Goals as goal
 
 pub returns-clause-within : goal.returns-clause-within

@@ -1,8 +1,6 @@
-use Rattle.std.proofs.Common.{subst}
-use Rattle.scope_rules.specs.Chains.{IsInward}
-use Rattle.cancel_tree.specs.Rows.{outer_of, own_of}
+use Rattle.cancel_tree.specs.{IsInward, outer_of, own_of}
+use Rattle.cancel_tree.proofs.Words.{cancel_law, subst}
 use Rattle.cancel_tree.proofs.RowLaws.{outer_inward}
-use Rattle.scope_rules.proofs.ChainLaws.{cancel_law}
 use Rattle.cancel_tree.proofs.tree.Tree.first_cancel_is_own_or_outer.Goals as goal
 
 pub returns : goal.returns

@@ -1,5 +1,5 @@
-use Rattle.cancel_tree.specs.Rows.{outer_of, own_of}
-use Rattle.scope_rules.proofs.EarliestLaws.{cancel_earliest}
+use Rattle.cancel_tree.specs.{outer_of, own_of}
+use Rattle.cancel_tree.proofs.Words.{cancel_earliest}
 use Rattle.cancel_tree.proofs.tree.Tree.first_cancel_is_the_earliest.Goals as goal
 
 pub returns : goal.returns

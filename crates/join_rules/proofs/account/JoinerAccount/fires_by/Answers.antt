@@ -1,8 +1,7 @@
 -- The kept totals answer, or the closure that agrees with the rule.
-use Rattle.std.proofs.Common.{◌≡◌, ◌∙◌, ap, true, rules}
-use Rattle.scope_rules.specs.Joining.{meets}
-use Rattle.scope_rules.specs.declared.types.joiners.Policy.TheVariants.{Until}
-use Rattle.join_rules.proofs.StandingLemmas.{fires_by_kept, fires_by_closure}
+use Rattle.std.proofs.Common.{◌∙◌, ◌≡◌, ap, rules, true}
+use Rattle.join_rules.specs.{Until, meets}
+use Rattle.join_rules.proofs.StandingLemmas.{fires_by_closure, fires_by_kept}
 use Rattle.join_rules.proofs.account.JoinerAccount.fires_by.Goals as goal
 
 pub returns-in_default : goal.returns-in_default

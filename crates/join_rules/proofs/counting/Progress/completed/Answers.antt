@@ -1,6 +1,6 @@
 -- The new account stands for the list with one completion more, and answers for it.
-use Rattle.std.proofs.Common.{[], ◌∷◌, ◌++◌, ap, sym, ◌∙◌}
-use Rattle.scope_rules.specs.Joining.{fires}
+use Rattle.std.proofs.Common.{[], ◌++◌, ◌∙◌, ◌∷◌, ap, sym}
+use Rattle.join_rules.specs.{fires}
 use Rattle.join_rules.proofs.StandingLemmas.{stands-push}
 use Rattle.join_rules.proofs.counting.Progress.completed.Goals as goal
 

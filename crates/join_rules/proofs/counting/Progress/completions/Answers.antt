@@ -1,5 +1,5 @@
 -- The kept totals are those of every list that the progress stands for.
-use Rattle.std.proofs.Common.{◌∙◌}
+use Rattle.join_rules.proofs.Words.{◌∙◌}
 use Rattle.join_rules.proofs.StandingLemmas.{are_listed}
 use Rattle.join_rules.proofs.counting.Progress.completions.Goals as goal
 

@@ -1,5 +1,5 @@
 -- The joiner stays.
-use Rattle.std.proofs.Common.{sym, ◌∙◌}
+use Rattle.join_rules.proofs.Words.{◌∙◌, sym}
 use Rattle.join_rules.proofs.counting.Progress.reserve.Goals as goal
 
 pub invariant_of-self : goal.invariant_of-self

@@ -1,7 +1,7 @@
 -- One number more moves the sum by less than 2^63.
 use Rattle.std.proofs.Common.{◌+◌, ◌<◌, ap, arith}
-use Rattle.std.proofs.lemmas.Int.{ints}
-use Rattle.join_rules.specs.Totals.{Totals}
+use Rattle.join_rules.specs.{Totals.Totals}
+use Rattle.join_rules.proofs.Words.{ints}
 use Rattle.join_rules.proofs.tally.Tally.count.Goals as goal
 
 pub invariant_of-self : goal.invariant_of-self

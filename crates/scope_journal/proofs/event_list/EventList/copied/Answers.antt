@@ -1,5 +1,5 @@
 -- Each turn copies the next event.
-use Rattle.std.proofs.Common.{◌∙◌}
+use Rattle.scope_journal.proofs.Words.{◌∙◌}
 use Rattle.scope_journal.proofs.Coding.{copied_more}
 use Rattle.scope_journal.proofs.event_list.EventList.copied.Goals as goal
 

@@ -1,8 +1,7 @@
 -- The code at the place has its entry, and says the event.
-use Rattle.std.proofs.Common.{◌≡◌, ◌<◌, Some, length, slice_get, subst, sym, ap, ◌∙◌, arith}
-use Rattle.std.proofs.lemmas.List.{length-map}
-use Rattle.scope_journal.specs.Codes.{event_of}
-use Rattle.scope_journal.specs.EventTable.{EventTable}
+use Rattle.std.proofs.Common.{◌<◌, ◌∙◌, ◌≡◌, Some, ap, arith, length, slice_get, subst, sym}
+use Rattle.scope_journal.specs.{EventTable.EventTable, event_of}
+use Rattle.scope_journal.proofs.Words.{length-map}
 use Rattle.scope_journal.proofs.Coding.{read_entry, read_said}
 use Rattle.scope_journal.proofs.event_list.EventList.event.Goals as goal
 

@@ -1,6 +1,6 @@
 -- The code is one more, and says the event behind the others.
-use Rattle.std.proofs.Common.{◌++◌, ◌∷◌, [], ap, ◌∙◌, arith}
-use Rattle.scope_journal.specs.EventTable.{EventTable, events_said}
+use Rattle.std.proofs.Common.{[], ◌++◌, ◌∙◌, ◌∷◌, ap, arith}
+use Rattle.scope_journal.specs.{EventTable.EventTable, events_said}
 use Rattle.scope_journal.proofs.Coding.{codes_more, said_more}
 use Rattle.scope_journal.proofs.event_list.EventList.push.Goals as goal
 

@@ -1,5 +1,5 @@
-use Rattle.std.proofs.Common.{arith}
-use Rattle.scope_rules.specs.Origin.{the_start}
+use Rattle.scope_journal.specs.{the_start}
+use Rattle.scope_journal.proofs.Words.{arith}
 use Rattle.scope_journal.proofs.Keeping.{kept_base}
 use Rattle.scope_journal.proofs.journal.Journal.new.Goals as goal
 

@@ -1,9 +1,7 @@
 -- There is room for the event, and it keeps what is kept.
-use Rattle.std.proofs.Common.{◌≤◌, sym, subst, arith}
-use Rattle.scope_rules.specs.Load.{weight}
-use Rattle.scope_rules.specs.Legal.{Accepts}
-use Rattle.scope_rules.proofs.Pushing.{legal_push}
-use Rattle.scope_journal.specs.JournalKeeps.{JournalTable}
+use Rattle.std.proofs.Common.{◌≤◌, arith, subst, sym}
+use Rattle.scope_journal.specs.{Accepts, JournalTable, weight}
+use Rattle.scope_journal.proofs.Words.{legal_push}
 use Rattle.scope_journal.proofs.Keeping.{kept_push, kept_room}
 use Rattle.scope_journal.proofs.journal.Journal.record.Goals as goal
 

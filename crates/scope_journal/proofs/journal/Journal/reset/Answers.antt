@@ -1,8 +1,5 @@
-use Rattle.std.proofs.Common.{◌≡◌, sym, ap, ◌∙◌, arith}
-use Rattle.scope_rules.specs.History.{History}
-use Rattle.scope_rules.specs.Replies.{base_of}
-use Rattle.scope_journal.specs.EventTable.{EventTable}
-use Rattle.scope_journal.specs.JournalKeeps.{JournalTable}
+use Rattle.std.proofs.Common.{◌∙◌, ◌≡◌, ap, arith, sym}
+use Rattle.scope_journal.specs.{EventTable.EventTable, History, JournalTable, base_of}
 use Rattle.scope_journal.proofs.Keeping.{kept_restart, restart_room}
 use Rattle.scope_journal.proofs.journal.Journal.reset.Goals as goal
 

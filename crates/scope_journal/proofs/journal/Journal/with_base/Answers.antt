@@ -1,5 +1,5 @@
-use Rattle.std.proofs.Common.{◌≡◌, [], length, ap, ◌∙◌, arith}
-use Rattle.scope_journal.specs.EventTable.{EventTable}
+use Rattle.std.proofs.Common.{[], ◌∙◌, ◌≡◌, ap, arith, length}
+use Rattle.scope_journal.specs.{EventTable.EventTable}
 use Rattle.scope_journal.proofs.Keeping.{kept_base}
 use Rattle.scope_journal.proofs.journal.Journal.with_base.Goals as goal
 

@@ -1,5 +1,5 @@
 -- The link leads to the event before, if it leads back.
-use Rattle.scope_journal.proofs.Latest.{back_agrees, link_read, goes_back, not_back}
+use Rattle.scope_journal.proofs.Latest.{back_agrees, goes_back, link_read, not_back}
 use Rattle.scope_journal.proofs.trails.Trails.back.Goals as goal
 
 pub returns-then-link-place-clause-link : goal.returns-then-link-place-clause-link

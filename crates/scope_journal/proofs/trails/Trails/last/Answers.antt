@@ -1,6 +1,5 @@
 -- The place that is kept of the scope is its last.
-use Rattle.scope_journal.proofs.TrailSteps.{last_was}
-use Rattle.scope_journal.proofs.Latest.{last_agrees}
+use Rattle.scope_journal.proofs.{Latest.last_agrees, TrailSteps.last_was}
 use Rattle.scope_journal.proofs.trails.Trails.last.Goals as goal
 
 pub returns-clause-last : goal.returns-clause-last

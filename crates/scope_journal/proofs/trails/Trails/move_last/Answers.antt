@@ -1,6 +1,6 @@
 -- The place that is replaced is the scope's last.
-use Rattle.std.proofs.Common.{ap, ◌∙◌}
-use Rattle.scope_journal.specs.TrailTable.{TrailTable, with_last}
+use Rattle.scope_journal.specs.{TrailTable.TrailTable, with_last}
+use Rattle.scope_journal.proofs.Words.{◌∙◌, ap}
 use Rattle.scope_journal.proofs.TrailSteps.{last_was}
 use Rattle.scope_journal.proofs.trails.Trails.move_last.Goals as goal
 

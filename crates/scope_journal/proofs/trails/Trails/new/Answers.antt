@@ -1,6 +1,5 @@
 -- A realm begins with no trails.
-use Rattle.std.proofs.Common.{arith}
-use Rattle.std.proofs.lemmas.Grind.{common_steps}
+use Rattle.scope_journal.proofs.Words.{arith, common_steps}
 use Rattle.scope_journal.proofs.TrailSteps.{begins}
 use Rattle.scope_journal.proofs.trails.Trails.new.Goals as goal
 

@@ -1,9 +1,8 @@
 -- The event's place is the last of its scope, if it has one.
-use Rattle.std.proofs.Common.{ap, sym, ◌∙◌}
-use Rattle.scope_journal.specs.TrailTable.{with_event}
-use Rattle.scope_journal.proofs.TrailSteps.{told_agrees, told_scope, told_none}
+use Rattle.scope_journal.specs.{TrailTable.with_event}
+use Rattle.scope_journal.proofs.Words.{◌∙◌, ap, sym}
+use Rattle.scope_journal.proofs.{TrailSteps.told_agrees, TrailSteps.told_none, TrailSteps.told_scope, trails.Trails.note.Goals.in-None, trails.Trails.note.Goals.in-Some}
 use Rattle.scope_journal.proofs.trails.Trails.note.Goals as goal
-use Rattle.scope_journal.proofs.trails.Trails.note.Goals.{in-Some, in-None}
 
 pub returns-clause-kept : goal.returns-clause-kept
 returns-clause-kept c =

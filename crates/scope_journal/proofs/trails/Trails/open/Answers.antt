@@ -1,6 +1,5 @@
 -- The trail of the new scope begins with its open.
-use Rattle.std.proofs.Common.{arith}
-use Rattle.std.proofs.lemmas.Grind.{common_steps}
+use Rattle.scope_journal.proofs.Words.{arith, common_steps}
 use Rattle.scope_journal.proofs.TrailSteps.{opened_agrees}
 use Rattle.scope_journal.proofs.trails.Trails.open.Goals as goal
 

@@ -1,8 +1,7 @@
 -- Each step of the walk takes a place from what is ahead.
-use Rattle.std.proofs.Common.{◌≡◌, None, ◌++◌, reverse, ap, sym, ◌∙◌}
-use Rattle.scope_journal.specs.TrailTable.{back, trail_in}
-use Rattle.scope_journal.proofs.TrailSteps.{trail_there, walk_begins}
-use Rattle.scope_journal.proofs.TrailWalks.{ahead, walked}
+use Rattle.std.proofs.Common.{◌++◌, ◌∙◌, ◌≡◌, None, ap, reverse, sym}
+use Rattle.scope_journal.specs.{back, trail_in}
+use Rattle.scope_journal.proofs.{TrailSteps.trail_there, TrailSteps.walk_begins, TrailWalks.ahead, TrailWalks.walked}
 use Rattle.scope_journal.proofs.trails.Trails.places.Goals as goal
 
 pub loop-next-init : goal.loop-next-init

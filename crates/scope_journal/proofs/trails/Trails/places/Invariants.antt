@@ -1,7 +1,7 @@
 -- What was walked, and what is ahead, is the trail.
-use Rattle.std.proofs.Common.{◌≡◌, ◌++◌, reverse}
-use Rattle.scope_journal.specs.TrailTable.{trail_in}
-use Rattle.scope_journal.proofs.TrailWalks.{bound, ahead}
+use Rattle.std.proofs.Common.{◌++◌, ◌≡◌, reverse}
+use Rattle.scope_journal.specs.{trail_in}
+use Rattle.scope_journal.proofs.TrailWalks.{ahead, bound}
 use Rattle.scope_journal.proofs.trails.Trails.places.Given as goal
 
 abbrev pub invariant-loop-next : goal.invariant-loop-next

@@ -1,5 +1,5 @@
 -- More room leaves the trails.
-use Rattle.std.proofs.Common.{rules}
+use Rattle.scope_journal.proofs.Words.{rules}
 use Rattle.scope_journal.proofs.TrailSteps.{roomy_agrees}
 use Rattle.scope_journal.proofs.trails.Trails.reserve.Goals as goal
 

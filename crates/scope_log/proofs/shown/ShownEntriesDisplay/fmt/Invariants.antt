@@ -1,7 +1,6 @@
 -- The lines of the entries before the index were written.
-use Rattle.std.proofs.Common.{take}
-use Rattle.std.specs.Fmt.{HasWritten, IsPlainFormatter}
-use Rattle.scope_log.specs.LogText.{lines_text}
+use Rattle.scope_log.specs.{HasWritten, IsPlainFormatter, lines_text}
+use Rattle.scope_log.proofs.Words.{take}
 use Rattle.scope_log.proofs.shown.ShownEntriesDisplay.fmt.Given as goal
 
 abbrev pub invariant-loop-entry : goal.invariant-loop-entry

@@ -1,6 +1,5 @@
 -- The new scope has the deadline that it is opened with.
-use Rattle.std.proofs.Common.{arith}
-use Rattle.std.proofs.lemmas.Grind.{common_steps}
+use Rattle.scope_rows.proofs.Words.{arith, common_steps}
 use Rattle.scope_rows.proofs.DeadlineSteps.{opened_agrees}
 use Rattle.scope_rows.proofs.deadlines.OwnDeadlines.open.Goals as goal
 

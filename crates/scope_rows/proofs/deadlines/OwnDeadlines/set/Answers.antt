@@ -1,6 +1,6 @@
 -- The scope's deadline is written.
-use Rattle.std.proofs.Common.{ap}
-use Rattle.scope_rows.specs.DeadlineTable.{DeadlineTable, with_deadline}
+use Rattle.scope_rows.specs.{DeadlineTable.DeadlineTable, with_deadline}
+use Rattle.scope_rows.proofs.Words.{ap}
 use Rattle.scope_rows.proofs.DeadlineSteps.{moved_agrees}
 use Rattle.scope_rows.proofs.deadlines.OwnDeadlines.set.Goals as goal
 

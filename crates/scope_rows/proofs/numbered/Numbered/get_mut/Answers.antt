@@ -1,5 +1,5 @@
 -- What is left behind the reference is the number's entry.
-use Rattle.std.proofs.Common.{rules, refl}
+use Rattle.scope_rows.proofs.Words.{refl, rules}
 use Rattle.scope_rows.proofs.Entries.{entry_written}
 use Rattle.scope_rows.proofs.numbered.Numbered.get_mut.Goals as goal
 

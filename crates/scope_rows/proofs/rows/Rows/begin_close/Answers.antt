@@ -1,12 +1,7 @@
 -- The walk marks the scopes that are covered, and the scope's row says whether others were.
-use Rattle.std.proofs.Common.{rules, sym, subst}
-use Rattle.scope_rules.specs.declared.types.events.Event.TheVariants.{BeginClose}
-use Rattle.scope_rules.specs.History.{followed}
-use Rattle.scope_rows.specs.Table.{RowTable}
-use Rattle.scope_rows.specs.Agreement.{AreRowsOf}
-use Rattle.scope_rows.proofs.CloseLaws.{rows_begun}
-use Rattle.scope_rows.proofs.Marking.{marked_numbered}
-use Rattle.scope_rows.proofs.CloseWriting.{close_written}
+use Rattle.scope_rows.specs.{AreRowsOf, BeginClose, RowTable, followed}
+use Rattle.scope_rows.proofs.Words.{rules, subst, sym}
+use Rattle.scope_rows.proofs.{CloseLaws.rows_begun, CloseWriting.close_written, Marking.marked_numbered}
 use Rattle.scope_rows.proofs.rows.Rows.begin_close.Goals as goal
 
 pub get_mut-requires : goal.get_mut-requires

@@ -1,12 +1,7 @@
 -- The scope's row says that it is closed, and its actor's innermost is the one below.
-use Rattle.std.proofs.Common.{ap, sym, subst, ◌∙◌}
-use Rattle.scope_rules.specs.declared.types.events.Event.TheVariants.{EndClose}
-use Rattle.scope_rules.specs.History.{followed}
-use Rattle.scope_rows.specs.Table.{RowTable}
-use Rattle.scope_rows.specs.Agreement.{AreRowsOf}
-use Rattle.scope_rows.specs.Steps.{with_innermost, with_scope, closed_row}
-use Rattle.scope_rows.proofs.EndLaws.{rows_ended}
-use Rattle.scope_rows.proofs.Writing.{scope_written, below_read}
+use Rattle.scope_rows.specs.{AreRowsOf, EndClose, RowTable, closed_row, followed, with_innermost, with_scope}
+use Rattle.scope_rows.proofs.Words.{◌∙◌, ap, subst, sym}
+use Rattle.scope_rows.proofs.{EndLaws.rows_ended, Writing.below_read, Writing.scope_written}
 use Rattle.scope_rows.proofs.rows.Rows.end_close.Goals as goal
 
 pub returns-clause-rows : goal.returns-clause-rows

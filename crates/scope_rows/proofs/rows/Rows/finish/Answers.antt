@@ -1,12 +1,7 @@
 -- The task's row says how it ended, and the row of its scope counts it so.
-use Rattle.std.proofs.Common.{ap, sym, subst, ◌∙◌}
-use Rattle.scope_rules.specs.declared.types.events.Event.TheVariants.{Finish}
-use Rattle.scope_rules.specs.History.{followed}
-use Rattle.scope_rows.specs.Table.{RowTable}
-use Rattle.scope_rows.specs.Agreement.{AreRowsOf}
-use Rattle.scope_rows.specs.Steps.{ended_row, moved, count_finish}
-use Rattle.scope_rows.proofs.TaskLaws.{rows_finished}
-use Rattle.scope_rows.proofs.Writing.{move_written}
+use Rattle.scope_rows.specs.{AreRowsOf, Finish, RowTable, count_finish, ended_row, followed, moved}
+use Rattle.scope_rows.proofs.Words.{◌∙◌, ap, subst, sym}
+use Rattle.scope_rows.proofs.{TaskLaws.rows_finished, Writing.move_written}
 use Rattle.scope_rows.proofs.rows.Rows.finish.Goals as goal
 
 pub returns-clause-rows : goal.returns-clause-rows

@@ -1,11 +1,7 @@
 -- The row of the scope counts the task, whose own row is the last.
-use Rattle.std.proofs.Common.{sym, subst}
-use Rattle.scope_rules.specs.declared.types.events.Event.TheVariants.{Fork}
-use Rattle.scope_rules.specs.History.{followed}
-use Rattle.scope_rows.specs.Table.{RowTable}
-use Rattle.scope_rows.specs.Agreement.{AreRowsOf}
-use Rattle.scope_rows.proofs.ForkLaws.{rows_forked}
-use Rattle.scope_rows.proofs.Writing.{fork_written}
+use Rattle.scope_rows.specs.{AreRowsOf, Fork, RowTable, followed}
+use Rattle.scope_rows.proofs.Words.{subst, sym}
+use Rattle.scope_rows.proofs.{ForkLaws.rows_forked, Writing.fork_written}
 use Rattle.scope_rows.proofs.rows.Rows.fork.Goals as goal
 
 pub returns-clause-rows : goal.returns-clause-rows

@@ -1,5 +1,5 @@
 -- What is read is the innermost scope of the actor's row.
-use Rattle.std.proofs.Common.{None, sym}
+use Rattle.scope_rows.proofs.Words.{None, sym}
 use Rattle.scope_rows.proofs.Reading.{task_innermost}
 use Rattle.scope_rows.proofs.rows.Rows.innermost.Goals as goal
 

@@ -1,12 +1,7 @@
 -- The place is written into the scope's row.
-use Rattle.std.proofs.Common.{sym, subst}
-use Rattle.scope_rules.specs.declared.types.events.Event.TheVariants.{Join}
-use Rattle.scope_rules.specs.History.{followed}
-use Rattle.scope_rows.specs.Table.{RowTable}
-use Rattle.scope_rows.specs.Agreement.{AreRowsOf}
-use Rattle.scope_rows.specs.Steps.{joined_row}
-use Rattle.scope_rows.proofs.Writing.{scope_written}
-use Rattle.scope_rows.proofs.JoinLaws.{rows_joined}
+use Rattle.scope_rows.specs.{AreRowsOf, Join, RowTable, followed, joined_row}
+use Rattle.scope_rows.proofs.Words.{subst, sym}
+use Rattle.scope_rows.proofs.{JoinLaws.rows_joined, Writing.scope_written}
 use Rattle.scope_rows.proofs.rows.Rows.join.Goals as goal
 
 pub returns-clause-rows : goal.returns-clause-rows

@@ -1,11 +1,7 @@
 -- The row of the new scope is the last, and the scope is its actor's innermost.
-use Rattle.std.proofs.Common.{sym, subst}
-use Rattle.scope_rules.specs.declared.types.events.Event.TheVariants.{Open}
-use Rattle.scope_rules.specs.History.{followed}
-use Rattle.scope_rows.specs.Table.{RowTable}
-use Rattle.scope_rows.specs.Agreement.{AreRowsOf}
-use Rattle.scope_rows.proofs.OpenLaws.{rows_opened}
-use Rattle.scope_rows.proofs.Writing.{open_written}
+use Rattle.scope_rows.specs.{AreRowsOf, Open, RowTable, followed}
+use Rattle.scope_rows.proofs.Words.{subst, sym}
+use Rattle.scope_rows.proofs.{OpenLaws.rows_opened, Writing.open_written}
 use Rattle.scope_rows.proofs.rows.Rows.open.Goals as goal
 
 pub returns-clause-rows : goal.returns-clause-rows

@@ -1,5 +1,5 @@
 -- No rows agree with no events.
-use Rattle.std.proofs.Common.{refl}
+use Rattle.scope_rows.proofs.Words.{refl}
 use Rattle.scope_rows.proofs.Empty.{rows_empty}
 use Rattle.scope_rows.proofs.rows.Rows.reset.Goals as goal
 

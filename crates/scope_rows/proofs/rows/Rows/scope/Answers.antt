@@ -1,7 +1,7 @@
 -- What is read is the row of the scope's number.
-use Rattle.std.proofs.Common.{ap, ◌∙◌}
+use Rattle.scope_rows.specs.{RowTable, scope_row}
+use Rattle.scope_rows.proofs.Words.{◌∙◌, ap}
 use Rattle.scope_rows.proofs.Reading.{scope_answer}
-use Rattle.scope_rows.specs.Table.{RowTable, scope_row}
 use Rattle.scope_rows.proofs.rows.Rows.scope.Goals as goal
 
 pub returns-clause-row : goal.returns-clause-row

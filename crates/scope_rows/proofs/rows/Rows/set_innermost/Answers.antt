@@ -1,5 +1,5 @@
 -- The row of a task says it, or main's own field.
-use Rattle.std.proofs.lemmas.Bool.{ne_eqb}
+use Rattle.scope_rows.proofs.Words.{ne_eqb}
 use Rattle.scope_rows.proofs.Writing.{inner_written}
 use Rattle.scope_rows.proofs.rows.Rows.set_innermost.Goals as goal
 

@@ -1,5 +1,5 @@
 -- The task's row says the stage, and the row of its scope counts it so.
-use Rattle.scope_rows.specs.Steps.{stage_row, count_taken}
+use Rattle.scope_rows.specs.{count_taken, stage_row}
 use Rattle.scope_rows.proofs.Writing.{move_written}
 use Rattle.scope_rows.proofs.rows.Rows.take.Goals as goal
 

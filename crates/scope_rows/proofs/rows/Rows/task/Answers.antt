@@ -1,7 +1,7 @@
 -- What is read is the row of the task's number.
-use Rattle.std.proofs.Common.{ap, ◌∙◌}
+use Rattle.scope_rows.specs.{RowTable, task_row}
+use Rattle.scope_rows.proofs.Words.{◌∙◌, ap}
 use Rattle.scope_rows.proofs.Reading.{task_answer}
-use Rattle.scope_rows.specs.Table.{RowTable, task_row}
 use Rattle.scope_rows.proofs.rows.Rows.task.Goals as goal
 
 pub returns-clause-row : goal.returns-clause-row

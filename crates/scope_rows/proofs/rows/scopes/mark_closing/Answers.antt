@@ -1,6 +1,6 @@
 -- Each turn marks a scope and goes on below it.
-use Rattle.std.proofs.Common.{None, refl, subst}
-use Rattle.scope_rows.proofs.Marking.{IsWalked, walk_start, walk_written, walk_shrinks, step_written, onward_end, onward_on}
+use Rattle.scope_rows.proofs.Words.{None, refl, subst}
+use Rattle.scope_rows.proofs.Marking.{IsWalked, onward_end, onward_on, step_written, walk_shrinks, walk_start, walk_written}
 use Rattle.scope_rows.proofs.rows.scopes.mark_closing.Goals as goal
 
 pub loop-next-init : goal.loop-next-init

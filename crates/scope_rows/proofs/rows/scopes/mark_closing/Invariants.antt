@@ -1,5 +1,5 @@
 -- The walk goes down, to lower numbers.
-use Rattle.scope_rows.specs.Steps.{walk_length}
+use Rattle.scope_rows.specs.{walk_length}
 use Rattle.scope_rows.proofs.Marking.{IsWalk}
 use Rattle.scope_rows.proofs.rows.scopes.mark_closing.Given as goal
 

@@ -1,5 +1,4 @@
-use Rattle.scope_rules.proofs.Heights.{stack_above}
-use Rattle.scope_rules.proofs.LastPairs.{last_was_bound, last_bound_once, held_by_later, held_by_any}
+use Rattle.scope_rules.proofs.{Heights.stack_above, LastPairs.held_by_any, LastPairs.held_by_later, LastPairs.last_bound_once, LastPairs.last_was_bound}
 use Rattle.scope_rules.proofs.laws.bindings.unbinds_wait_for_later_scopes.Goals as goal
 
 pub returns-clause-bound : goal.returns-clause-bound

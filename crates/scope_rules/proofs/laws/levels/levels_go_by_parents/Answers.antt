@@ -1,5 +1,4 @@
-use Rattle.scope_rules.proofs.Parents.{parent_smaller}
-use Rattle.scope_rules.proofs.Levels.{level_by_parent}
+use Rattle.scope_rules.proofs.{Levels.level_by_parent, Parents.parent_smaller}
 use Rattle.scope_rules.proofs.laws.levels.levels_go_by_parents.Goals as goal
 
 pub returns-clause-level : goal.returns-clause-level

@@ -1,7 +1,6 @@
 -- The tasks before the index were written.
-use Rattle.std.proofs.Common.{take}
-use Rattle.std.specs.Fmt.{HasWritten, IsPlainFormatter}
-use Rattle.scope_rules.specs.Texts.{states_text}
+use Rattle.scope_rules.specs.{HasWritten, IsPlainFormatter, states_text}
+use Rattle.scope_rules.proofs.Words.{take}
 use Rattle.scope_rules.proofs.shown.TaskStatesDisplay.fmt.Given as goal
 
 abbrev pub invariant-loop-task : goal.invariant-loop-task

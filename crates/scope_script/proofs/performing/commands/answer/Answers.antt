@@ -1,5 +1,5 @@
-use Rattle.std.proofs.Common.{inr, refl}
-use Rattle.scope_script.specs.Replying.{reply_to, realm_after}
+use Rattle.scope_script.specs.{realm_after, reply_to}
+use Rattle.scope_script.proofs.Lemmas.{inr, refl}
 use Rattle.scope_script.proofs.Answered.{retires}
 use Rattle.scope_script.proofs.performing.commands.answer.Goals as goal
 

@@ -1,5 +1,5 @@
-use Rattle.std.proofs.Common.{ap}
-use Rattle.script_words.specs.declared.reply.Reply.TheVariants.{Refused}
+use Rattle.scope_script.specs.{Refused}
+use Rattle.scope_script.proofs.Lemmas.{ap}
 use Rattle.scope_script.proofs.Refused.{stopped_at}
 use Rattle.scope_script.proofs.performing.commands.perform.Goals as goal
 

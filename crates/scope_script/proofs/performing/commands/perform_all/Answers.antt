@@ -1,8 +1,5 @@
-use Rattle.std.proofs.Common.{◌∙◌, ap, sym, refl, length}
-use Rattle.std.proofs.lemmas.Option.{slice_get_read}
-use Rattle.scope_rules.specs.Replies.{Realm}
-use Rattle.scope_book.specs.Books.{realm_of}
-use Rattle.scope_script.specs.Replying.{realm_after}
+use Rattle.scope_script.specs.{Realm, realm_after, realm_of}
+use Rattle.scope_script.proofs.Lemmas.{◌∙◌, ap, length, refl, slice_get_read, sym}
 use Rattle.scope_script.proofs.Runs.{realm_after_at, stops_at}
 use Rattle.scope_script.proofs.performing.commands.perform_all.Goals as goal
 

@@ -1,7 +1,6 @@
 -- The commands before the index were performed.
 use Rattle.std.proofs.Common.{◌≡◌, take}
-use Rattle.scope_book.specs.Books.{realm_of}
-use Rattle.scope_script.specs.Replying.{realm_after_all}
+use Rattle.scope_script.specs.{realm_after_all, realm_of}
 use Rattle.scope_script.proofs.performing.commands.perform_all.Given as goal
 
 abbrev pub invariant-loop-command : goal.invariant-loop-command

@@ -1,4 +1,4 @@
-use Rattle.std.proofs.Common.{inr}
+use Rattle.scope_script.proofs.Lemmas.{inr}
 use Rattle.scope_script.proofs.Answered.{accepted, no_join, refused}
 use Rattle.scope_script.proofs.performing.commands.try_event.Goals as goal
 

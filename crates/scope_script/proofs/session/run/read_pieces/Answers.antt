@@ -1,7 +1,6 @@
-use Rattle.std.proofs.Common.{rules}
-use Rattle.std.proofs.KnownBytes.{Keeps-refl}
-use Rattle.scope_script.specs.Books.{session_of}
-use Rattle.scope_script.proofs.Progress.{begins_run, goes_on, ends_tallied, stops_reading, stops_ending, stops_within, reads_none}
+use Rattle.scope_script.specs.{session_of}
+use Rattle.scope_script.proofs.Lemmas.{Keeps-refl, rules}
+use Rattle.scope_script.proofs.Progress.{begins_run, ends_tallied, goes_on, reads_none, stops_ending, stops_reading, stops_within}
 use Rattle.scope_script.proofs.session.run.read_pieces.Goals as goal
 
 pub reading-init : goal.reading-init

@@ -1,8 +1,6 @@
 -- All that was read so far was answered, and no stream has failed.
-use Rattle.std.proofs.Common.{◌≡◌, ◌-◌, ◌<◌, false, [], length}
-use Rattle.scope_rules.specs.declared.types.capacity.Limits.{Limits}
-use Rattle.scope_script.specs.Books.{session_of}
-use Rattle.scope_script.specs.ByBytes.{the_beginning}
+use Rattle.std.proofs.Common.{[], ◌-◌, ◌<◌, ◌≡◌, false, length}
+use Rattle.scope_script.specs.{Limits, session_of, the_beginning}
 use Rattle.scope_script.proofs.Progress.{UnderWay}
 use Rattle.scope_script.proofs.session.run.read_pieces.Given as goal
 

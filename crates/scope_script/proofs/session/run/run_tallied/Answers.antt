@@ -1,5 +1,5 @@
 -- If there is no room for replies, nothing was read or written.
-use Rattle.std.proofs.KnownBytes.{Keeps-refl}
+use Rattle.scope_script.proofs.Lemmas.{Keeps-refl}
 use Rattle.scope_script.proofs.Progress.{begins_run, stops_reading}
 use Rattle.scope_script.proofs.session.run.run_tallied.Goals as goal
 

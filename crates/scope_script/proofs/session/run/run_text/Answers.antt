@@ -1,5 +1,5 @@
-use Rattle.std.proofs.Common.{◌∙◌}
-use Rattle.scope_script.specs.Books.{session_of}
+use Rattle.scope_script.specs.{session_of}
+use Rattle.scope_script.proofs.Lemmas.{◌∙◌}
 use Rattle.scope_script.proofs.Progress.{nothing_yet, text_ends, text_stops, text_stops_ending}
 use Rattle.scope_script.proofs.session.run.run_text.Goals as goal
 

@@ -1,5 +1,5 @@
 -- What a look-up gives, in words of the list alone.
-use Rattle.scoped_env.specs.Layers.{all_pairs}
+use Rattle.scoped_env.specs.{all_pairs}
 use Rattle.scoped_env.proofs.LastBound.{last_from_bound_to, none_from_bound_to}
 use Rattle.scoped_env.proofs.env.Env.get.Goals as goal
 

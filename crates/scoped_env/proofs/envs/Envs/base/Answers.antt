@@ -1,13 +1,7 @@
 -- Main inherits nothing, so all its pairs are its own.
-use Rattle.std.proofs.Common.{◌≡◌, List, ap, subst, sym, ◌∙◌}
-use Rattle.std.proofs.lemmas.Result.{IfOk-weaker}
-use Rattle.scope_rules.specs.declared.types.events.Binding.{Binding}
-use Rattle.scope_rules.specs.Origin.{Origin}
-use Rattle.scope_rules.specs.History.{History}
-use Rattle.scope_rules.specs.Bindings.{stack}
-use Rattle.scoped_env.specs.EnvTable.{EnvTable}
-use Rattle.scoped_env.specs.Layers.{all_pairs}
-use Rattle.scoped_env.specs.Agreement.{AreEnvsOf}
+use Rattle.std.proofs.Common.{◌∙◌, ◌≡◌, List, ap, subst, sym}
+use Rattle.scoped_env.specs.{AreEnvsOf, Binding, EnvTable.EnvTable, History, Origin, Words.stack, all_pairs}
+use Rattle.scoped_env.proofs.Words.{IfOk-weaker}
 use Rattle.scoped_env.proofs.Beginnings.{main_pairs}
 use Rattle.scoped_env.proofs.envs.Envs.base.Goals as goal
 

@@ -1,6 +1,5 @@
 -- The pair stands above the actor's own, and nothing else changed.
-use Rattle.std.proofs.Common.{rules, arith}
-use Rattle.std.proofs.lemmas.Grind.{common_steps}
+use Rattle.scoped_env.proofs.Words.{arith, common_steps, rules}
 use Rattle.scoped_env.proofs.Steps.{bind_agrees}
 use Rattle.scoped_env.proofs.envs.Envs.bind.Goals as goal
 

@@ -1,6 +1,5 @@
 -- The new task inherits all that its forker sees.
-use Rattle.std.proofs.Common.{arith}
-use Rattle.std.proofs.lemmas.Grind.{common_steps}
+use Rattle.scoped_env.proofs.Words.{arith, common_steps}
 use Rattle.scoped_env.proofs.Steps.{fork_agrees}
 use Rattle.scoped_env.proofs.envs.Envs.fork.Goals as goal
 

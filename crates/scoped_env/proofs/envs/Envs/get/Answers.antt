@@ -1,5 +1,5 @@
 -- What the actor's environment finds is what the actor sees.
-use Rattle.std.proofs.Common.{rules, ◌∙◌}
+use Rattle.scoped_env.proofs.Words.{◌∙◌, rules}
 use Rattle.scoped_env.proofs.Held.{seen_there}
 use Rattle.scoped_env.proofs.envs.Envs.get.Goals as goal
 

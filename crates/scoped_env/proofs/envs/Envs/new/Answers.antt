@@ -1,5 +1,5 @@
 -- A fresh realm has nothing bound.
-use Rattle.std.proofs.Common.{rules}
+use Rattle.scoped_env.proofs.Words.{rules}
 use Rattle.scoped_env.proofs.Beginnings.{begins}
 use Rattle.scoped_env.proofs.envs.Envs.new.Goals as goal
 

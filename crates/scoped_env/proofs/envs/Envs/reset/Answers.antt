@@ -1,5 +1,5 @@
 -- Main's pairs stay.
-use Rattle.std.proofs.Common.{rules}
+use Rattle.scoped_env.proofs.Words.{rules}
 use Rattle.scoped_env.proofs.Beginnings.{restarts}
 use Rattle.scoped_env.proofs.envs.Envs.reset.Goals as goal
 

@@ -1,5 +1,5 @@
 -- The own pairs that are kept are the actor's.
-use Rattle.std.proofs.Common.{rules, length, ap, ◌∙◌}
+use Rattle.scoped_env.proofs.Words.{◌∙◌, ap, length, rules}
 use Rattle.scoped_env.proofs.Held.{stack_there}
 use Rattle.scoped_env.proofs.envs.Envs.stack_len.Goals as goal
 

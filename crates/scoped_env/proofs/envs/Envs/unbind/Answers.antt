@@ -1,6 +1,5 @@
 -- The actor's last own pair is gone, and nothing else changed.
-use Rattle.std.proofs.Common.{rules, arith}
-use Rattle.std.proofs.lemmas.Grind.{common_steps}
+use Rattle.scoped_env.proofs.Words.{arith, common_steps, rules}
 use Rattle.scoped_env.proofs.Steps.{unbind_agrees}
 use Rattle.scoped_env.proofs.envs.Envs.unbind.Goals as goal
 

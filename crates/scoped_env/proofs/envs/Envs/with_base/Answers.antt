@@ -1,5 +1,5 @@
 -- Main begins with the pairs of the base.
-use Rattle.std.proofs.Common.{rules}
+use Rattle.scoped_env.proofs.Words.{rules}
 use Rattle.scoped_env.proofs.Beginnings.{begins}
 use Rattle.scoped_env.proofs.envs.Envs.with_base.Goals as goal
 

@@ -1,7 +1,7 @@
 -- The first of the batches are left after one less, and it is one less.
-use Rattle.std.proofs.Common.{◌-◌, length, ap, arith}
-use Rattle.std.proofs.lemmas.List.{length-take}
-use Rattle.scoped_env.proofs.Batches.{joined_some, first_popped}
+use Rattle.std.proofs.Common.{◌-◌, ap, arith, length}
+use Rattle.scoped_env.proofs.Words.{length-take}
+use Rattle.scoped_env.proofs.Batches.{first_popped, joined_some}
 use Rattle.scoped_env.proofs.frozen.Frozen.cut.Goals as goal
 
 pub loop-self-preserved : goal.loop-self-preserved

@@ -1,6 +1,6 @@
 -- Each batch has the next of the pairs.
-use Rattle.std.proofs.Common.{◌+◌, ◌≤◌, length, arith}
-use Rattle.scoped_env.proofs.Batches.{begins_kept, begins_extended, count_extended}
+use Rattle.std.proofs.Common.{◌+◌, ◌≤◌, arith, length}
+use Rattle.scoped_env.proofs.Batches.{begins_extended, begins_kept, count_extended}
 use Rattle.scoped_env.proofs.frozen.Frozen.extend.Goals as goal
 
 pub loop-alloc-init : goal.loop-alloc-init

@@ -1,6 +1,6 @@
 -- The batches have the first of the pairs.
 use Rattle.std.proofs.Common.{◌-◌, length}
-use Rattle.scoped_env.specs.Joined.{joined, BeginsWith}
+use Rattle.scoped_env.specs.{BeginsWith, joined}
 use Rattle.scoped_env.proofs.frozen.Frozen.extend.Given as goal
 
 abbrev pub invariant-loop-alloc : goal.invariant-loop-alloc

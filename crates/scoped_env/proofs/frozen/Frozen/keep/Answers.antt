@@ -1,6 +1,6 @@
 -- The first of the batches are left after one less, and it is one less.
-use Rattle.std.proofs.Common.{◌-◌, length, ap, arith}
-use Rattle.std.proofs.lemmas.List.{length-take}
+use Rattle.std.proofs.Common.{◌-◌, ap, arith, length}
+use Rattle.scoped_env.proofs.Words.{length-take}
 use Rattle.scoped_env.proofs.Batches.{first_popped}
 use Rattle.scoped_env.proofs.frozen.Frozen.keep.Goals as goal
 

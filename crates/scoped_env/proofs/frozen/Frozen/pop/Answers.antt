@@ -1,5 +1,5 @@
 -- The pairs of the last batch are counted no more.
-use Rattle.std.proofs.Common.{length, ap, arith}
+use Rattle.scoped_env.proofs.Words.{ap, arith, length}
 use Rattle.scoped_env.proofs.Batches.{joined_count}
 use Rattle.scoped_env.proofs.frozen.Frozen.pop.Goals as goal
 

@@ -1,5 +1,5 @@
 -- The pairs of the new batch are counted.
-use Rattle.std.proofs.Common.{length, ap, arith, ◌∙◌}
+use Rattle.scoped_env.proofs.Words.{◌∙◌, ap, arith, length}
 use Rattle.scoped_env.proofs.Batches.{joined_count}
 use Rattle.scoped_env.proofs.frozen.Frozen.push.Goals as goal
 

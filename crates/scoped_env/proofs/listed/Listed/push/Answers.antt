@@ -1,7 +1,6 @@
 -- The list has the pair next.
-use Rattle.std.proofs.Common.{◌+◌, ◌++◌, ◌∷◌, [], ap, sym, ◌∙◌, take, subst, refl}
-use Rattle.scoped_env.specs.Joined.{BeginsWith}
-use Rattle.scoped_env.specs.Listed.{pairs_listed}
+use Rattle.std.proofs.Common.{[], ◌++◌, ◌+◌, ◌∙◌, ◌∷◌, ap, refl, subst, sym, take}
+use Rattle.scoped_env.specs.{BeginsWith, pairs_listed}
 use Rattle.scoped_env.proofs.Batches.{begins_next}
 use Rattle.scoped_env.proofs.listed.Listed.push.Goals as goal
 

@@ -1,6 +1,6 @@
 -- What was shared with the pair is let go.
-use Rattle.std.proofs.Common.{◌+◌, ◌≤◌, length, take, ap, subst, ◌∙◌, arith, ◌≡◌, Some}
-use Rattle.std.specs.Option.{IfSome}
+use Rattle.std.proofs.Common.{◌+◌, ◌∙◌, ◌≡◌, ◌≤◌, Some, ap, arith, length, subst, take}
+use Rattle.scoped_env.specs.{IfSome}
 use Rattle.scoped_env.proofs.Batches.{cut_keeps}
 use Rattle.scoped_env.proofs.own.OwnPairs.unbind.Goals as goal
 

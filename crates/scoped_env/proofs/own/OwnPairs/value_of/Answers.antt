@@ -1,9 +1,6 @@
 -- The own pairs stand above the inherited ones.
-use Rattle.std.proofs.Common.{ap, sym, ◌∙◌}
-use Rattle.std.specs.Option.{option_or}
-use Rattle.scope_rules.specs.Bindings.{bound_to}
-use Rattle.scoped_env.specs.Layers.{Layers, all_pairs}
-use Rattle.scope_rules.proofs.Stacks.{bound_to_append}
+use Rattle.scoped_env.specs.{Layers.Layers, all_pairs, bound_to, option_or}
+use Rattle.scoped_env.proofs.Words.{◌∙◌, ap, bound_to_append, sym}
 use Rattle.scoped_env.proofs.own.OwnPairs.value_of.Goals as goal
 
 pub returns-in-Some : goal.returns-in-Some

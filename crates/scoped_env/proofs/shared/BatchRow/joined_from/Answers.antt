@@ -1,6 +1,6 @@
 -- The first batches, and the pairs of the others.
-use Rattle.std.proofs.Common.{◌++◌, ap, sym, ◌∙◌, length}
-use Rattle.scoped_env.specs.Joined.{joined}
+use Rattle.std.proofs.Common.{◌++◌, ◌∙◌, ap, length, sym}
+use Rattle.scoped_env.specs.{joined}
 use Rattle.scoped_env.proofs.Batches.{joined_from}
 use Rattle.scoped_env.proofs.shared.BatchRow.joined_from.Goals as goal
 

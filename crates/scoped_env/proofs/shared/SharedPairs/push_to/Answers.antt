@@ -1,7 +1,6 @@
 -- A few pairs are one batch.
-use Rattle.std.proofs.Common.{ap, sym, ◌∙◌, ◌++◌}
-use Rattle.scoped_env.specs.Joined.{joined}
-use Rattle.scoped_env.specs.Shared.{pairs_of}
+use Rattle.std.proofs.Common.{◌++◌, ◌∙◌, ap, sym}
+use Rattle.scoped_env.specs.{joined, pairs_of}
 use Rattle.scoped_env.proofs.Batches.{joined_more}
 use Rattle.scoped_env.proofs.shared.SharedPairs.push_to.Goals as goal
 

@@ -1,7 +1,6 @@
 -- No pair has the key.
-use Rattle.std.proofs.Common.{ap, sym, ◌∙◌}
-use Rattle.scope_rules.specs.Bindings.{bound_to}
-use Rattle.scoped_env.specs.Shared.{pairs_of}
+use Rattle.scoped_env.specs.{bound_to, pairs_of}
+use Rattle.scoped_env.proofs.Words.{◌∙◌, ap, sym}
 use Rattle.scoped_env.proofs.Indexing.{none_bound}
 use Rattle.scoped_env.proofs.shared.SharedPairs.value_of.Goals as goal
 

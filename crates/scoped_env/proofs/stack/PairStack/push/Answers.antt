@@ -1,6 +1,6 @@
 -- A pair among the first is not indexed, and one behind them is.
-use Rattle.std.proofs.Common.{Some, subst, sym, arith}
-use Rattle.scoped_env.specs.Stacked.{IsIndexed}
+use Rattle.scoped_env.specs.{IsIndexed}
+use Rattle.scoped_env.proofs.Words.{Some, arith, subst, sym}
 use Rattle.scoped_env.proofs.Indexing.{few_more, many_more, writes_of}
 use Rattle.scoped_env.proofs.stack.PairStack.push.Goals as goal
 

@@ -1,6 +1,6 @@
 -- The index has the keys behind the first pairs, and those are looked through if it has none.
-use Rattle.std.proofs.Common.{ap, ◌∙◌, take}
-use Rattle.scope_rules.specs.Bindings.{bound_to}
+use Rattle.scoped_env.specs.{bound_to}
+use Rattle.scoped_env.proofs.Words.{◌∙◌, ap, take}
 use Rattle.scoped_env.proofs.Indexing.{found_behind, found_first}
 use Rattle.scoped_env.proofs.stack.PairStack.value_of.Goals as goal
 

@@ -1,7 +1,6 @@
 -- The lines before the index were written.
-use Rattle.std.proofs.Common.{take}
-use Rattle.std.specs.Fmt.{HasWritten, IsPlainFormatter}
-use Rattle.script_journal.specs.Script.{pairs_text}
+use Rattle.script_journal.specs.{HasWritten, IsPlainFormatter, pairs_text}
+use Rattle.script_journal.proofs.Lemmas.{take}
 use Rattle.script_journal.proofs.script.ShownBindsDisplay.fmt.Given as goal
 
 abbrev pub invariant-loop-pair : goal.invariant-loop-pair

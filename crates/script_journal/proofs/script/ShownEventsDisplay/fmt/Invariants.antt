@@ -1,7 +1,6 @@
 -- The lines before the index were written.
-use Rattle.std.proofs.Common.{take}
-use Rattle.std.specs.Fmt.{HasWritten, IsPlainFormatter}
-use Rattle.script_journal.specs.Script.{events_text}
+use Rattle.script_journal.specs.{HasWritten, IsPlainFormatter, events_text}
+use Rattle.script_journal.proofs.Lemmas.{take}
 use Rattle.script_journal.proofs.script.ShownEventsDisplay.fmt.Given as goal
 
 abbrev pub invariant-loop-event : goal.invariant-loop-event

@@ -1,8 +1,7 @@
-use Rattle.share_ledger.specs.Desks.{limits_of, steps_of, hand_of}
-use Rattle.share_ledger.proofs.Allowed.{append_allowed}
-use Rattle.share_ledger.proofs.Desks.{a_word}
-use prog.Atomic.{either}
 use Rattle.std.proofs.Common.{◌==◌}
+use Rattle.share_ledger.specs.{hand_of, limits_of, steps_of}
+use Rattle.share_ledger.proofs.Words.{either}
+use Rattle.share_ledger.proofs.{Allowed.append_allowed, Desks.a_word}
 use Rattle.share_ledger.proofs.desk.Desk.append.Goals as goal
 
 pub compare_exchange_with-requires : goal.compare_exchange_with-requires

@@ -1,6 +1,5 @@
-use Rattle.share_ledger.specs.Desks.{limits_of, steps_of, hand_of, first_in, others_in}
-use Rattle.share_ledger.proofs.Allowed.{give_out_allowed}
-use Rattle.share_ledger.proofs.Desks.{a_word}
+use Rattle.share_ledger.specs.{first_in, hand_of, limits_of, others_in, steps_of}
+use Rattle.share_ledger.proofs.{Allowed.give_out_allowed, Desks.a_word}
 use Rattle.share_ledger.proofs.desk.Desk.give_out.Goals as goal
 
 pub split_seat-share-requires : goal.split_seat-share-requires

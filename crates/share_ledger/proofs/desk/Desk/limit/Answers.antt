@@ -1,7 +1,6 @@
-use Rattle.share_ledger.proofs.Allowed.{limit_allowed}
-use Rattle.share_ledger.proofs.Desks.{a_word}
-use prog.Atomic.{either}
 use Rattle.std.proofs.Common.{◌==◌}
+use Rattle.share_ledger.proofs.Words.{either}
+use Rattle.share_ledger.proofs.{Allowed.limit_allowed, Desks.a_word}
 use Rattle.share_ledger.proofs.desk.Desk.limit.Goals as goal
 
 pub compare_exchange_with-requires : goal.compare_exchange_with-requires

@@ -1,5 +1,5 @@
-use Rattle.std.proofs.Common.{◌∙◌}
-use Rattle.share_ledger.proofs.Desks.{a_word, share_allowed, arrived_allowed}
+use Rattle.share_ledger.proofs.Words.{◌∙◌}
+use Rattle.share_ledger.proofs.Desks.{a_word, arrived_allowed, share_allowed}
 use Rattle.share_ledger.proofs.desk.Desk.take_in.Goals as goal
 
 pub join_seat-requires : goal.join_seat-requires

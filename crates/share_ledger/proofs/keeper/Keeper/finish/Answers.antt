@@ -1,6 +1,5 @@
-use Rattle.std.proofs.Common.{◌≡◌, None, ap, sym, ◌∙◌}
-use Rattle.share_ledger.specs.Tickets.{end_in}
-use Rattle.share_ledger.specs.Values.{TicketValue}
+use Rattle.std.proofs.Common.{◌∙◌, ◌≡◌, None, ap, sym}
+use Rattle.share_ledger.specs.{TicketValue, end_in}
 use Rattle.share_ledger.proofs.Telling.{ended_ticket, unended}
 use Rattle.share_ledger.proofs.keeper.Keeper.finish.Goals as goal
 

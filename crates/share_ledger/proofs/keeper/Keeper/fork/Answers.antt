@@ -1,5 +1,5 @@
-use Rattle.std.proofs.Common.{ap}
-use Rattle.share_ledger.specs.Values.{KeeperValue}
+use Rattle.share_ledger.specs.{KeeperValue}
+use Rattle.share_ledger.proofs.Words.{ap}
 use Rattle.share_ledger.proofs.Telling.{new_ticket}
 use Rattle.share_ledger.proofs.keeper.Keeper.fork.Goals as goal
 

@@ -1,4 +1,4 @@
-use Rattle.std.proofs.Common.{sym}
+use Rattle.share_ledger.proofs.Words.{sym}
 use Rattle.share_ledger.proofs.Telling.{rejected_ticket}
 use Rattle.share_ledger.proofs.keeper.Keeper.reject.Goals as goal
 

@@ -1,7 +1,6 @@
-use Rattle.std.proofs.Common.{◌≡◌, false, ap, sym, ◌∙◌}
-use Rattle.share_ledger.specs.Tickets.{started_in}
-use Rattle.share_ledger.specs.Values.{TicketValue}
-use Rattle.share_ledger.proofs.Telling.{started_ticket, may_start}
+use Rattle.std.proofs.Common.{◌∙◌, ◌≡◌, ap, false, sym}
+use Rattle.share_ledger.specs.{TicketValue, started_in}
+use Rattle.share_ledger.proofs.Telling.{may_start, started_ticket}
 use Rattle.share_ledger.proofs.keeper.Keeper.start.Goals as goal
 
 pub step_naming-new-requires-clause-may : goal.step_naming-new-requires-clause-may

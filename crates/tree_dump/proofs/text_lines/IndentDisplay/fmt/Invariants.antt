@@ -1,6 +1,5 @@
 -- The levels so far were written.
-use Rattle.std.specs.Fmt.{HasWritten, IsPlainFormatter}
-use Rattle.tree_dump.specs.TextLines.{indent}
+use Rattle.tree_dump.specs.{HasWritten, IsPlainFormatter, indent}
 use Rattle.tree_dump.proofs.text_lines.IndentDisplay.fmt.Given as goal
 
 abbrev pub invariant-loop-level : goal.invariant-loop-level

@@ -1,16 +1,6 @@
 -- What was sent is the tree with times and limits.
-use Rattle.std.proofs.Common.{◌∙◌, Some, ap, codes, subst}
-use Rattle.std.proofs.lemmas.Result.{on_ok_weaker}
-use Rattle.scope_rules.specs.History.{moment, opened_count}
-use Rattle.scope_rules.specs.Load.{load}
-use Rattle.scope_rules.specs.Nests.{outermost}
-use Rattle.serde_json.specs.Data.{number, unsigned}
-use Rattle.serde_json.specs.Events.{SendsValue}
-use Rattle.tree_dump.specs.Ages.{clock_of}
-use Rattle.tree_dump.specs.Objects.{number_or_null}
-use Rattle.tree_dump.specs.Sent.{SendsMember}
-use Rattle.tree_dump.specs.Timed.{amounts, limits_data, used_data}
-use Rattle.tree_dump.specs.Tree.{levels, nested}
+use Rattle.tree_dump.specs.{SendsMember, SendsValue, Tree.nested, amounts, clock_of, levels, limits_data, load, moment, number, number_or_null, opened_count, outermost, unsigned, used_data}
+use Rattle.tree_dump.proofs.Lemmas.{◌∙◌, Some, ap, codes, on_ok_weaker, subst}
 use Rattle.tree_dump.proofs.Sent.{member_as}
 use Rattle.tree_dump.proofs.timed.TimedTreeSerialize.serialize.Goals as goal
 

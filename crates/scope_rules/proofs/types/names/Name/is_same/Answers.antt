@@ -1,8 +1,6 @@
 -- Equal texts are equal names.
-use Rattle.std.proofs.Common.{ap, sym, ◌∙◌}
-use Rattle.std.specs.Cmp.Lexicographic.{bytes_decides}
-use Rattle.std.proofs.lemmas.Bool.Decides.{Decides-at}
-use Rattle.scope_rules.specs.Names.{text_of}
+use Rattle.scope_rules.specs.{bytes_decides, text_of}
+use Rattle.scope_rules.proofs.Words.{◌∙◌, Decides-at, ap, sym}
 use Rattle.scope_rules.proofs.NameLemmas.{same_text}
 use Rattle.scope_rules.proofs.types.names.Name.is_same.Goals as goal
 

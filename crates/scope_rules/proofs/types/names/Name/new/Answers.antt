@@ -1,8 +1,7 @@
 -- Each byte is copied to its place, and what is copied is a name.
-use Rattle.std.proofs.Common.{◌≡◌, ℕ, ◌+◌, ◌-◌, ◌<◌, ◌++◌, [], ◌∷◌, List, length, take, drop, set, replicate, get_or, ap, sym, ◌∙◌, add-one, arith, true}
-use Rattle.std.proofs.lemmas.List.{length-set, drop-set-lt, drop-drop, drop-replicate, take_all}
-use Rattle.std.proofs.Math.Seq.{take-suc-set, take-suc}
-use Rattle.scope_rules.specs.NameText.{is_name}
+use Rattle.std.proofs.Common.{[], ℕ, ◌++◌, ◌+◌, ◌-◌, ◌<◌, ◌∙◌, ◌∷◌, ◌≡◌, List, add-one, ap, arith, drop, get_or, length, replicate, set, sym, take, true}
+use Rattle.scope_rules.specs.{is_name}
+use Rattle.scope_rules.proofs.Words.{drop-drop, drop-replicate, drop-set-lt, length-set, take-suc, take-suc-set, take_all}
 use Rattle.scope_rules.proofs.StoredNames.{stored_passes}
 use Rattle.scope_rules.proofs.types.names.Name.new.Goals as goal
 

@@ -1,5 +1,5 @@
 -- The bytes so far are the text's, and zeros stand after them.
-use Rattle.std.proofs.Common.{◌≡◌, ◌-◌, length, take, drop, replicate}
+use Rattle.std.proofs.Common.{◌-◌, ◌≡◌, drop, length, replicate, take}
 use Rattle.scope_rules.proofs.types.names.Name.new.Given as goal
 
 abbrev pub invariant-loop-i : goal.invariant-loop-i

@@ -1,8 +1,7 @@
-use Rattle.std.proofs.Common.{◌≡◌, ◌≢◌, ◌⊎◌, inl, inr, false, true, length, refl, subst, sym, arith}
-use Rattle.std.proofs.lemmas.Bool.Decides.{nat_tests}
-use Rattle.scope_script.specs.KeptLines.{grown_by}
-use Rattle.scope_script.proofs.Growing.{stays, grows_within, grows_past}
-use Rattle.scope_script.proofs.session.begun.BegunLine.extend.Goals.{then-self-via-then-self, then-self-via-else-self+then-is_empty}
+use Rattle.std.proofs.Common.{◌≡◌, ◌≢◌, ◌⊎◌, arith, false, inl, inr, length, refl, subst, sym, true}
+use Rattle.scope_script.specs.{grown_by}
+use Rattle.scope_script.proofs.Lemmas.{nat_tests}
+use Rattle.scope_script.proofs.{Growing.grows_past, Growing.grows_within, Growing.stays, session.begun.BegunLine.extend.Goals.then-self-via-else-self+then-is_empty, session.begun.BegunLine.extend.Goals.then-self-via-then-self}
 use Rattle.scope_script.proofs.session.begun.BegunLine.extend.Goals as goal
 
 pub returns-then-self : goal.returns-then-self

@@ -1,6 +1,6 @@
-use Rattle.std.proofs.Common.{refl, ◌∙◌}
-use Rattle.scope_script.specs.Books.{session_of}
-use Rattle.scope_script.proofs.Taken.{takes_none, takes_line, leaves_rest, all_replied, stops_taking}
+use Rattle.scope_script.specs.{session_of}
+use Rattle.scope_script.proofs.Lemmas.{◌∙◌, refl}
+use Rattle.scope_script.proofs.Taken.{all_replied, leaves_rest, stops_taking, takes_line, takes_none}
 use Rattle.scope_script.proofs.session.script.Script.take.Goals as goal
 
 pub loop-line-init : goal.loop-line-init

@@ -1,6 +1,6 @@
 -- The lines before the rest were taken, and answered.
-use Rattle.std.proofs.Common.{length}
-use Rattle.scope_script.specs.Books.{session_of}
+use Rattle.scope_script.specs.{session_of}
+use Rattle.scope_script.proofs.Lemmas.{length}
 use Rattle.scope_script.proofs.Taken.{Taken}
 use Rattle.scope_script.proofs.session.script.Script.take.Given as goal
 

@@ -1,6 +1,5 @@
-use Rattle.std.proofs.Common.{◌++◌, ◌∙◌, ap, sym, take, append_assoc}
-use Rattle.std.proofs.KnownBytes.{Appends-trans}
-use Rattle.std.proofs.lemmas.List.{take-append-drop}
+use Rattle.std.proofs.Common.{◌++◌, ◌∙◌, ap, append_assoc, sym, take}
+use Rattle.scope_script.proofs.Lemmas.{Appends-trans, take-append-drop}
 use Rattle.scope_script.proofs.streams.watched.Watched.write_bytes.Goals as goal
 
 pub loop-rest-preserved : goal.loop-rest-preserved

@@ -1,6 +1,6 @@
 -- What came before the rest was written.
-use Rattle.std.proofs.Common.{◌≡◌, ℕ, List, ◌++◌, length}
-use Rattle.std.specs.Io.KnownBytes.{Appends}
+use Rattle.std.proofs.Common.{ℕ, ◌++◌, ◌≡◌, List, length}
+use Rattle.scope_script.specs.{Appends}
 use Rattle.scope_script.proofs.streams.watched.Watched.write_bytes.Given as goal
 
 abbrev pub decreases-loop-rest : goal.decreases-loop-rest
