@@ -1,27 +1,11 @@
 -- The scopes of the first pairs of the order are those that are due, in order.
-use Rattle.std.proofs.Common.{◌≡◌, ℕ, ◌+◌, ◌<◌, ◌≤◌, Bool, true, false, cond, not, eqb, leb, Option, Some, None, List, length, take, get_or, IsTrue, refl, ap, sym, ◌∙◌, inl, inr, arith}
-use Rattle.std.specs.declared.cmp.Ordering.TheVariants.{Less}
-use Rattle.std.specs.Ordering.{nat_cmp}
-use Rattle.std.specs.Cmp.{IsTotalOrder, nat_cmp_total, eq_by_cmp_equiv, then_total, on_total, nat_eq_equiv}
-use Rattle.std.specs.List.{Contains, list_any, prefix_len, take_while}
-use Rattle.std.specs.List.Sorted.{IsStrictlySortedBy}
-use Rattle.std.specs.BTreeMap.{is_at}
+use Rattle.std.proofs.Common.{ℕ, ◌+◌, ◌<◌, ◌∙◌, ◌≡◌, ◌≤◌, Bool, IsTrue, List, None, Option, Some, ap, arith, cond, eqb, false, get_or, inl, inr, leb, length, not, refl, sym, take, true}
+use Rattle.deadline_core.specs.{Contains, IsDueInOrder, IsStrictlySortedBy, IsTotalOrder, Less, Moments.Moments, Precedes, eq_by_cmp_equiv, is_at, is_due, is_past, list_any, nat_cmp, nat_cmp_total, nat_eq_equiv, on_total}
+use Rattle.deadline_core.specs.{pair_cmp, prefix_len, scopes_up_to, take_while, then_total}
+use Rattle.deadline_core.proofs.Words.{Contains-from_any, Contains-get_or, Less-from_sorted, cases_lt, cases_order, eqb-true, exact_pairs, exact_unsigned, false≢true, get_or-map, get_or-take, get_or_default, leb-false, leb-true}
+use Rattle.deadline_core.proofs.Words.{length-map, length-prefix_len, list_any-from_Contains, list_any_more, nat_tests, prefix_len-le-length, prefix_len_passes, prefix_len_stops, same_Some, same_from_decides, tells_apart}
+use Rattle.deadline_core.proofs.{First.found, First.listed, Listing.Lists}
 use Rattle.std.specs.FinMap as fin
-use Rattle.std.proofs.lemmas.Bool.{false≢true, leb-true, leb-false, cases_lt, cases_order, eqb-true}
-use Rattle.std.proofs.lemmas.Bool.Decides.{nat_tests, same_from_decides}
-use Rattle.std.proofs.lemmas.Option.{same_Some}
-use Rattle.std.proofs.lemmas.List.{get_or-map, get_or-take, get_or_default}
-use Rattle.std.proofs.lemmas.List.Sums.{prefix_len-le-length, prefix_len_passes, prefix_len_stops}
-use Rattle.std.proofs.lemmas.List.Folds.{length-prefix_len, list_any_more}
-use Rattle.std.proofs.lemmas.List.Elements.{Contains-get_or}
-use Rattle.std.proofs.lemmas.Map.Keys.{Less-from_sorted}
-use Rattle.std.proofs.lemmas.Map.Views.{list_any-from_Contains, Contains-from_any, tells_apart}
-use Rattle.std.proofs.lemmas.Map.Lookups.{exact_unsigned, exact_pairs}
-use Rattle.std.proofs.Math.ListN.{length-map}
-use Rattle.deadline_core.specs.Ordered.{pair_cmp, scopes_up_to}
-use Rattle.deadline_core.specs.Moments.{Moments, is_past, is_due, Precedes, IsDueInOrder}
-use Rattle.deadline_core.proofs.Listing.{Lists}
-use Rattle.deadline_core.proofs.First.{listed, found}
 
 pair_cmp_total : IsTotalOrder pair_cmp
 pair_cmp_total = then_total (on_total (λ (p : ℕ × ℕ). p.0) nat_cmp_total) (on_total (λ (p : ℕ × ℕ). p.1) nat_cmp_total)

@@ -1,14 +1,9 @@
 -- What the first pair of the order says of the deadlines.
-use Rattle.std.proofs.Common.{Bor, ◌≡◌, ℕ, ◌<◌, ◌≤◌, ◌↔◌, Bool, true, false, Option, Some, None, refl, ap, sym, ◌∙◌, subst, arith}
-use Rattle.std.specs.Ordering.{nat_cmp, is_gt}
-use Rattle.std.specs.Cmp.{nat_cmp_total}
-use Rattle.std.specs.Option.{option_copied, IfNone, IsSome}
-use Rattle.std.specs.FinMap as map
-use Rattle.std.proofs.lemmas.Bool.{false≢true, eqb-true, eq-eqb}
-use Rattle.std.proofs.lemmas.Bool.Decides.{nat_tests}
-use Rattle.deadline_core.specs.Ordered.{pair_cmp, is_moment}
-use Rattle.deadline_core.specs.Moments.{Moments, IsFirst}
+use Rattle.std.proofs.Common.{ℕ, ◌<◌, ◌↔◌, ◌∙◌, ◌≡◌, ◌≤◌, Bool, Bor, None, Option, Some, ap, arith, false, refl, subst, sym, true}
+use Rattle.deadline_core.specs.{IfNone, IsFirst, IsSome, Moments.Moments, is_gt, is_moment, nat_cmp, nat_cmp_total, option_copied, pair_cmp}
+use Rattle.deadline_core.proofs.Words.{eq-eqb, eqb-true, false≢true, nat_tests}
 use Rattle.deadline_core.proofs.Listing.{Lists}
+use Rattle.std.specs.FinMap as map
 
 pub moment_found : (o : Option ℕ) (d : ℕ) → is_moment o d ≡ true → o ≡ Some d
 moment_found None d e = absurd (false≢true e)

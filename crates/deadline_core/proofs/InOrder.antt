@@ -1,17 +1,9 @@
 -- The pairs of the order are the deadlines with their scopes, the earlier first.
-use Rattle.std.proofs.Common.{◌≡◌, ℕ, ◌<◌, ◌≤◌, Some, List, length, get_or, slice_get, refl, sym, subst}
-use Rattle.std.specs.Ordering.{nat_cmp}
-use Rattle.std.specs.List.Sorted.{IsStrictlySortedBy}
+use Rattle.std.proofs.Common.{ℕ, ◌<◌, ◌≡◌, ◌≤◌, List, Some, get_or, length, refl, slice_get, subst, sym}
+use Rattle.deadline_core.specs.{AreInOrder, IsStrictlySortedBy, Moments.Moments, nat_cmp, pair_cmp}
+use Rattle.deadline_core.proofs.Words.{Contains-from_any, Less-from_sorted, exact_pairs, exact_unsigned, get_or_from_slice_get, slice_get_read, slice_get_within, tells_apart}
+use Rattle.deadline_core.proofs.{Due.has, Due.key_found, Due.rises, First.listed, Listing.Lists}
 use Rattle.std.specs.FinMap as fin
-use Rattle.std.proofs.lemmas.Map.Keys.{Less-from_sorted}
-use Rattle.std.proofs.lemmas.Map.Views.{Contains-from_any, tells_apart}
-use Rattle.std.proofs.lemmas.Map.Lookups.{exact_unsigned, exact_pairs}
-use Rattle.std.proofs.lemmas.Option.{get_or_from_slice_get, slice_get_read, slice_get_within}
-use Rattle.deadline_core.specs.Ordered.{pair_cmp}
-use Rattle.deadline_core.specs.Moments.{Moments, AreInOrder}
-use Rattle.deadline_core.proofs.Listing.{Lists}
-use Rattle.deadline_core.proofs.First.{listed}
-use Rattle.deadline_core.proofs.Due.{has, key_found, rises}
 
 module _ (ks : List (ℕ × ℕ)) (m : Moments) (lists : Lists (has ks) (fin.get m)) (sorted : IsStrictlySortedBy pair_cmp ks) where
   abbrev key : ℕ → ℕ × ℕ

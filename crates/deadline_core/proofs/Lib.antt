@@ -4,3 +4,4 @@ pub mod First
 pub mod Due
 pub mod InOrder
 pub mod Pairs
+mod Words

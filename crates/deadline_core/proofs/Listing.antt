@@ -1,9 +1,7 @@
 -- What a write to the order of deadlines, beside a write to the map of them, leaves listed.
-use Rattle.std.proofs.Common.{◌≡◌, ◌≢◌, ℕ, Bool, true, false, cond, ◌&&◌, eqb, Option, Some, None, ap, sym, ◌∙◌, arith}
-use Rattle.std.specs.Ordering.{nat_cmp}
-use Rattle.std.specs.BTreeMap.{is_at}
-use Rattle.std.proofs.lemmas.Bool.Decides.{nat_tests}
-use Rattle.deadline_core.specs.Ordered.{pair_cmp, is_moment}
+use Rattle.std.proofs.Common.{ℕ, ◌&&◌, ◌∙◌, ◌≡◌, ◌≢◌, Bool, None, Option, Some, ap, arith, cond, eqb, false, sym, true}
+use Rattle.deadline_core.specs.{is_at, is_moment, nat_cmp, pair_cmp}
+use Rattle.deadline_core.proofs.Words.{nat_tests}
 
 pub at_pair : (d s e t : ℕ) → is_at (pair_cmp (d, s)) (e, t) ≡ (eqb d e && eqb s t)
 at_pair d s e t = grind (arith, nat_tests)

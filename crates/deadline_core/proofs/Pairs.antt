@@ -1,17 +1,9 @@
 -- A list of deadlines with their scopes, of which no two have one scope, lists the map that it stands for.
-use Rattle.std.proofs.Common.{◌≡◌, ◌≢◌, ℕ, Bool, true, false, cond, ◌||◌, ◌&&◌, eqb, List, [], ◌∷◌, map, Option, Some, None, refl, ap, sym, subst, ◌∙◌, arith}
-use Rattle.std.specs.Ordering.{nat_cmp, is_eq, eq_by_cmp}
-use Rattle.std.specs.Cmp.{nat_cmp_total, eq_by_cmp_equiv}
-use Rattle.std.specs.BTreeMap.{is_at}
+use Rattle.std.proofs.Common.{[], ℕ, ◌&&◌, ◌||◌, ◌∙◌, ◌∷◌, ◌≡◌, ◌≢◌, Bool, List, None, Option, Some, ap, arith, cond, eqb, false, map, refl, subst, sym, true}
+use Rattle.deadline_core.specs.{Moments.Moments, eq_by_cmp, eq_by_cmp_equiv, is_at, is_eq, is_moment, moments_in, nat_cmp, nat_cmp_total}
+use Rattle.deadline_core.proofs.Words.{eq-eqb, false≢true, nat_tests, or_left, or_right, same_Some}
+use Rattle.deadline_core.proofs.{Due.has, First.moment_found, Listing.Lists, Listing.Puts, Listing.Sets, Listing.at_pair, Listing.lists_again, Listing.lists_first, Listing.lists_without}
 use Rattle.std.specs.FinMap as fin
-use Rattle.std.proofs.lemmas.Bool.{false≢true, eq-eqb, or_left, or_right}
-use Rattle.std.proofs.lemmas.Bool.Decides.{nat_tests}
-use Rattle.std.proofs.lemmas.Option.{same_Some}
-use Rattle.deadline_core.specs.Ordered.{is_moment, moments_in}
-use Rattle.deadline_core.specs.Moments.{Moments}
-use Rattle.deadline_core.proofs.Listing.{Lists, Puts, Sets, at_pair, lists_first, lists_again, lists_without}
-use Rattle.deadline_core.proofs.First.{moment_found}
-use Rattle.deadline_core.proofs.Due.{has}
 
 -- no scope is listed twice
 abbrev pub OneOfEach : (ℕ → ℕ → Bool) → Type 0

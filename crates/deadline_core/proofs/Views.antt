@@ -1,15 +1,9 @@
 -- The map that stands beside the order answers as the order does, after each change of both.
-use Rattle.std.proofs.Common.{◌≡◌, ◌≢◌, ℕ, true, false, cond, eqb, subst, arith, Option, Some, None, ap, sym, ◌∙◌}
-use Rattle.std.specs.Ordering.{nat_cmp, eq_by_cmp}
-use Rattle.std.specs.Cmp.{nat_cmp_total}
-use Rattle.std.specs.Option.{option_eq}
-use Rattle.std.proofs.lemmas.Bool.Decides.{nat_tests}
-use Rattle.std.proofs.lemmas.Bool.{eqb-true, eqb-false}
-use Rattle.std.specs.BTreeMap.{is_at}
+use Rattle.std.proofs.Common.{ℕ, ◌∙◌, ◌≡◌, ◌≢◌, None, Option, Some, ap, arith, cond, eqb, false, subst, sym, true}
+use Rattle.deadline_core.specs.{Moments.Moments, eq_by_cmp, is_at, nat_cmp, nat_cmp_total, option_eq}
+use Rattle.deadline_core.proofs.Words.{eqb-false, eqb-true, nat_tests}
+use Rattle.deadline_core.proofs.{Listing.Sets, Pairs.sets_insert, Pairs.sets_remove}
 use Rattle.std.specs.FinMap as map
-use Rattle.deadline_core.specs.Moments.{Moments}
-use Rattle.deadline_core.proofs.Listing.{Sets}
-use Rattle.deadline_core.proofs.Pairs.{sets_insert, sets_remove}
 
 -- a scope's own deadline, set once more
 set_again : (m : Moments) (k v q : ℕ) → map.get m k ≡ Some v → map.get m q ≡ cond (eq_by_cmp nat_cmp q k) (Some v) (map.get m q)

@@ -1,7 +1,6 @@
 -- What an index of deadlines stands for: a finite map from scopes to moments, and which of its scopes are due.
-use Rattle.std.specs.Prelude.{◌≡◌, ℕ, ◌<◌, ◌≤◌, ◌↔◌, Bool, false, nat_le, Option, Some, None, List, length, slice_get, slice_index, IsTrue}
-use Rattle.std.specs.List.{Contains}
-use Rattle.std.specs.Ordering.{nat_cmp}
+use Rattle.std.specs.Prelude.{ℕ, ◌<◌, ◌↔◌, ◌≡◌, ◌≤◌, Bool, IsTrue, List, None, Option, Some, false, length, nat_le, slice_get, slice_index}
+use Rattle.std.specs.{List.Contains, Ordering.nat_cmp}
 use Rattle.std.specs.FinMap as map
 
 -- the deadline, in milliseconds, of each scope that has one

@@ -1,12 +1,10 @@
 -- How the index keeps deadlines: in order, and beside that by scope.
-use Rattle.std.specs.Prelude.{◌≡◌, ℕ, Bool, false, ◌==◌, nat_le, List, map, Option, Some, None, IsTrue}
-use Rattle.std.specs.declared.cmp.Ordering.{Ordering}
-use Rattle.std.specs.Ordering.{nat_cmp, ordering_then}
-use Rattle.std.specs.List.{take_while}
+use Rattle.std.specs.Prelude.{ℕ, ◌==◌, ◌≡◌, Bool, IsTrue, List, None, Option, Some, false, map, nat_le}
+use Rattle.std.specs.{List.take_while, Ordering.nat_cmp, Ordering.ordering_then, declared.cmp.Ordering.Ordering}
+use Rattle.deadline_core.specs.Moments.{Moments}
 use Rattle.std.specs.BTreeMap as tree
 use Rattle.std.specs.BTreeSet as sorted
 use Rattle.std.specs.FinMap as fin
-use Rattle.deadline_core.specs.Moments.{Moments}
 
 -- a deadline and a scope, in order of the deadlines and then of the scopes
 abbrev pub pair_cmp : (p q : ℕ × ℕ) → Ordering

@@ -1,6 +1,6 @@
-ghost use Rattle.std.specs.Prelude.{◌≡◌, ℕ, false, not, IsTrue, IfOk, IfSome, IfNone, OnOk, OnErr};
+ghost use Rattle.std.specs.Prelude.{ℕ, ◌≡◌, IfNone, IfOk, IfSome, IsTrue, OnErr, OnOk, false, not};
+ghost use Rattle.deadline_core.specs.{IsDueInOrder, IsFirst, IsFirstDue, is_due};
 ghost use Rattle.std.specs.FinMap as map;
-ghost use Rattle.deadline_core.specs.Moments.{IsFirst, IsFirstDue, IsDueInOrder, is_due};
 
 use crate::order::DeadlineOrder;
 use scope_rules::ScopeId;

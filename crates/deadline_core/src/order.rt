@@ -1,8 +1,6 @@
-ghost use Rattle.std.specs.Prelude.{◌≡◌, ℕ, Some, false, IfOk, IfSome, IfNone, OnOk, OnErr};
+ghost use Rattle.std.specs.Prelude.{ℕ, ◌≡◌, IfNone, IfOk, IfSome, OnErr, OnOk, Some, false};
+ghost use Rattle.deadline_core.specs.{AreInOrder, IsDueInOrder, IsFirst, IsFirstDue, IsOrdered, is_due, pair_cmp, scopes_up_to};
 ghost use Rattle.std.specs.FinMap as map;
-ghost use Rattle.std.specs.BTreeSet.{IsOrdered};
-ghost use Rattle.deadline_core.specs.Ordered.{pair_cmp, scopes_up_to};
-ghost use Rattle.deadline_core.specs.Moments.{AreInOrder, IsFirst, IsFirstDue, IsDueInOrder, is_due};
 
 use scope_rules::ScopeId;
 use std::alloc::{AllocError, Global};

@@ -1,34 +1,9 @@
 -- A join that tells its outcome without the lists.
-use Rattle.std.proofs.Common.{◌≡◌, ℕ, true, false, Some, option_map, Result, Ok, Err, [], ◌∷◌, ◌++◌, refl, ap, ◌∙◌}
-use Rattle.std.proofs.lemmas.Bool.{or_right, eq-eqb}
-use Rattle.scope_rules.specs.declared.types.capacity.Limits.{Limits}
-use Rattle.scope_rules.specs.declared.types.events.Event.TheVariants.{Join}
-use Rattle.scope_rules.specs.declared.types.refusals.Refusal.{Refusal}
-use Rattle.scope_rules.specs.History.{History, followed}
-use Rattle.scope_rules.specs.Scopes.{joins, joined}
-use Rattle.scope_rules.specs.Outcomes.{outcome}
-use Rattle.scope_rules.specs.Checks.{checks, then_check}
-use Rattle.scope_rules.specs.Table.{check_of, row_check}
-use Rattle.scope_rules.specs.Legal.{Accepts}
-use Rattle.scope_rules.specs.Replies.{Realm, Answers, outcome_check}
-use Rattle.scope_rules.proofs.Accepted.{checks_at}
-use Rattle.scope_rules.proofs.Nesting.{IsOpened}
-use Rattle.scope_rules.proofs.NewScopes.{scope_passed}
-use Rattle.scope_rules.proofs.OneEventMore.{joined_grows, opening_same}
-use Rattle.scope_checks.proofs.Checked.{scope_passes}
-use Rattle.scope_index.specs.declared.bare.BareOutcome.{BareOutcome}
-use Rattle.scope_index.specs.Bare.{bare_of}
-use Rattle.share_ledger.specs.declared.steps.RealmStep.TheVariants.{Happened}
-use Rattle.share_ledger.specs.declared.steps.Holder.TheVariants.{TokenOf}
-use Rattle.share_ledger.specs.Steps.{history_of}
-use Rattle.share_ledger.proofs.Histories.{history-push}
-use Rattle.atomic_table.specs.Seated.{TableId}
-use Rattle.share_ledger.specs.Values.{KeeperValue, OwnerValue, OwnerAgrees}
-use Rattle.realm_core.specs.Cores.{Tied}
-use Rattle.realm_core.specs.Telling.{told}
-use Rattle.realm_core.specs.Views.{DidJoinBare}
-use Rattle.realm_core.proofs.Performed.{answers_so, answered, refused_by, refuses_now}
-use Rattle.realm_core.proofs.Steps.{adds_now}
+use Rattle.std.proofs.Common.{[], ℕ, ◌++◌, ◌∙◌, ◌∷◌, ◌≡◌, Err, Ok, Result, Some, ap, false, option_map, refl, true}
+use Rattle.realm_core.specs.{Accepts, Answers, BareOutcome, DidJoinBare, Happened, History, Join, KeeperValue, Limits, OwnerAgrees, OwnerValue, Realm, Refusal, TableId, Tied, TokenOf, bare_of, check_of, checks, followed}
+use Rattle.realm_core.specs.{history_of, joined, joins, outcome, outcome_check, row_check, then_check, told}
+use Rattle.realm_core.proofs.Words.{IsOpened, checks_at, eq-eqb, history-push, joined_grows, opening_same, or_right, scope_passed, scope_passes}
+use Rattle.realm_core.proofs.{Performed.answered, Performed.answers_so, Performed.refused_by, Performed.refuses_now, Steps.adds_now}
 
 -- a join that was accepted passed its check
 join_accepted : (L : Limits) (h : History) (a s : ℕ) → Answers (check_of L h (Join a s)) (tt {0}) (Ok tt) → Accepts L h (Join a s)

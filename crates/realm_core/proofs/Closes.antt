@@ -1,20 +1,8 @@
 -- How the close of a scope goes on to its end.
-use Rattle.std.proofs.Common.{◌≡◌, ◌≢◌, ℕ, ◌+◌, cond, ◌<◌, ◌≤◌, ◌==◌, ◌||◌, Bool, true, false, Option, Some, None, length, refl, sym, ap, ◌∙◌, arith, inl, inr}
-use Rattle.std.proofs.lemmas.Bool.{both_ways, cases_lt, or_from, ne_eqb, eq-eqb}
-use Rattle.std.specs.Option.{option_or}
-use Rattle.scope_rules.specs.declared.types.capacity.Limits.{Limits}
-use Rattle.scope_rules.specs.declared.types.events.Event.{Event}
-use Rattle.scope_rules.specs.declared.types.events.Event.TheVariants.{EndClose}
-use Rattle.scope_rules.specs.declared.types.records.Opening.{Opening}
-use Rattle.scope_rules.specs.History.{History, followed, opening, opening_of, scopes}
-use Rattle.scope_rules.specs.Scopes.{closed, closing, innermost}
-use Rattle.scope_rules.specs.Tasks.{settled}
-use Rattle.scope_rules.specs.Legal.{Legal}
-use Rattle.scope_rules.proofs.OneEventMore.{opening_grows, opening_split, forking_split, unclosed_earlier, closing_stays, closed_grows}
-use Rattle.scope_rules.proofs.Innermosts.{innermost_unclosed, innermost_later, unclosed_innermost}
-use Rattle.scope_rules.proofs.Stages.{settled_stays}
-use Rattle.scope_rules.proofs.SettledTasks.{settled_task, settled_where_all}
-use Rattle.realm_core.specs.Endings.{CanEnd, CanClose, CloseGoesOn}
+use Rattle.std.proofs.Common.{ℕ, ◌+◌, ◌<◌, ◌==◌, ◌||◌, ◌∙◌, ◌≡◌, ◌≢◌, ◌≤◌, Bool, None, Option, Some, ap, arith, cond, false, inl, inr, length, refl, sym, true}
+use Rattle.realm_core.specs.{CanClose, CanEnd, CloseGoesOn, EndClose, Event, History, Legal, Limits, Opening, closed, closing, followed, innermost, opening, opening_of, option_or, scopes, settled}
+use Rattle.realm_core.proofs.Words.{both_ways, cases_lt, closed_grows, closing_stays, eq-eqb, forking_split, innermost_later, innermost_unclosed, ne_eqb, opening_grows, opening_split, or_from, settled_stays, settled_task}
+use Rattle.realm_core.proofs.Words.{settled_where_all, unclosed_earlier, unclosed_innermost}
 use Rattle.realm_core.proofs.LaterClosing.{later_closing}
 
 begun_later : (L : Limits) (h : History) (a s t : ℕ) (x : Opening) → Legal L h → CanClose h a s → opening h t ≡ Some x → x.actor ≡ a → s ≤ t → closed h t ≡ false → closing h t ≡ true

@@ -1,27 +1,8 @@
 -- A scope whose close has begun is cancelled.
-use Rattle.std.proofs.Common.{◌≡◌, ℕ, cond, true, Option, Some, None, option_map, is_some, [], ◌∷◌, length, refl, sym, ap, ◌∙◌, inl, inr, arith}
-use Rattle.std.proofs.lemmas.Bool.{or_cases}
-use Rattle.std.specs.Option.{option_or}
-use Rattle.scope_rules.specs.declared.types.answers.CauseKind.{CauseKind}
-use Rattle.scope_rules.specs.declared.types.answers.CauseKind.TheVariants.{Close, Joiner, Deadline}
-use Rattle.scope_rules.specs.declared.types.capacity.Limits.{Limits}
-use Rattle.scope_rules.specs.declared.types.events.Event.{Event}
-use Rattle.scope_rules.specs.declared.types.events.Event.TheVariants.{BeginClose}
-use Rattle.scope_rules.specs.declared.types.records.FirstCancel.{FirstCancel}
-use Rattle.scope_rules.specs.declared.types.records.Opening.{Opening}
-use Rattle.scope_rules.specs.declared.types.records.OwnCancel.{OwnCancel}
-use Rattle.scope_rules.specs.Origin.{Origin}
-use Rattle.scope_rules.specs.Earliest.{IsEarliest}
-use Rattle.scope_rules.specs.Search.{earliest}
-use Rattle.scope_rules.specs.History.{History, followed, opening}
-use Rattle.scope_rules.specs.Scopes.{closing, begins_closing, outer, chain}
-use Rattle.scope_rules.specs.Cancels.{direct_kind, joiner_fires, overdue, own, own_cancel, first_cancel, is_cancelled}
-use Rattle.scope_rules.specs.Legal.{Legal}
-use Rattle.scope_rules.proofs.EarliestLaws.{cancel_earliest}
-use Rattle.scope_rules.proofs.Nesting.{chain_outwards}
-use Rattle.scope_rules.proofs.OneEventMore.{along, closing_grows}
-use Rattle.scope_rules.proofs.OwnSteps.{own_from, own_next}
-use Rattle.scope_rows.proofs.Unopened.{closing_opened}
+use Rattle.std.proofs.Common.{[], ℕ, ◌∙◌, ◌∷◌, ◌≡◌, None, Option, Some, ap, arith, cond, inl, inr, is_some, length, option_map, refl, sym, true}
+use Rattle.realm_core.specs.{BeginClose, CauseKind, Close, Deadline, Event, FirstCancel, History, IsEarliest, Joiner, Legal, Limits, Opening, Origin, OwnCancel, begins_closing, chain, closing, direct_kind, earliest, first_cancel}
+use Rattle.realm_core.specs.{followed, is_cancelled, joiner_fires, opening, option_or, outer, overdue, own, own_cancel}
+use Rattle.realm_core.proofs.Words.{along, cancel_earliest, chain_outwards, closing_grows, closing_opened, or_cases, own_from, own_next}
 
 -- ---- its beginning is a cancel of its own
 

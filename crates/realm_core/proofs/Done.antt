@@ -1,11 +1,6 @@
 -- What a command answers of which there is no more to say than that it was done.
-use Rattle.std.proofs.Common.{◌≡◌, Bool, false, Result, Ok, Err, refl, inl, inr}
-use Rattle.scope_rules.specs.declared.types.refusals.Refusal.{Refusal}
-use Rattle.scope_rules.specs.Checks.{Checked}
-use Rattle.scope_rules.specs.Replies.{Answers}
-use Rattle.scope_checks.specs.declared.event_replies.EventReply.{EventReply}
-use Rattle.scope_checks.specs.EventReplies.{Answered}
-use Rattle.realm_core.specs.Calls.{done}
+use Rattle.std.proofs.Common.{◌≡◌, Bool, Err, Ok, Result, false, inl, inr, refl}
+use Rattle.realm_core.specs.{Answered, Answers, Checked, EventReply, Refusal, done}
 
 pub done_for_sure : (check : Checked) (value : EventReply) (wants : Bool) (result : Result EventReply Refusal) → wants ≡ false → Answered check value wants result → Answers check tt (done result)
 done_for_sure (Ok passed) value wants (Ok answer) none said = refl

@@ -1,29 +1,11 @@
 -- What the ends of a close leave as it was, and what they add to logs.
-use Rattle.std.proofs.Common.{◌≡◌, ◌≢◌, ℕ, ◌+◌, cond, ◌==◌, ◌||◌, Bool, true, false, Some, None, List, [], ◌∷◌, ◌++◌, map, refl, sym, ap, ◌∙◌, subst, inl, inr, arith}
-use Rattle.std.proofs.lemmas.Bool.{both_ways, cases_eq, eq-eqb, ne_eqb, or_from}
-use Rattle.std.proofs.lemmas.List.{append-nil}
-use Rattle.std.specs.List.{list_any, cons_option, range_with_len}
-use Rattle.scope_rules.specs.declared.types.capacity.Limits.{Limits}
-use Rattle.scope_rules.specs.declared.types.events.Event.TheVariants.{EndClose}
-use Rattle.scope_rules.specs.History.{History, followed, opening, forked_count, is_fork}
-use Rattle.scope_rules.specs.Scopes.{closed, closing, innermost, joined}
-use Rattle.scope_rules.specs.Completions.{is_task_of}
-use Rattle.scope_rules.specs.Cancels.{is_cancelled}
-use Rattle.scope_rules.specs.Tasks.{has_tasks}
-use Rattle.scope_rules.specs.Verdicts.{verdict, violated}
-use Rattle.scope_rules.specs.Legal.{Accepts, Legal}
-use Rattle.scope_rules.proofs.OneEventMore.{opening_same, forking_same, joined_grows, closed_grows, closed_stays, closing_stays}
-use Rattle.scope_rules.proofs.Owing.{count_push}
-use Rattle.scope_rules.proofs.Pushing.{legal_push}
-use Rattle.scope_rules.proofs.Innermosts.{innermost_unclosed}
-use Rattle.scope_rules.proofs.VerdictSteps.{violated_grows}
-use Rattle.scope_log.specs.declared.entries.LogEntry.TheVariants as entry
-use Rattle.scope_log.specs.Log.{LogValue, entry_of, mark_next, entries_next, log}
-use Rattle.scope_log.proofs.NewLogs.{log_grows}
-use Rattle.share_ledger.specs.Steps.{advanced, LegalFrom}
-use Rattle.realm_core.specs.Ends.{end_step, ended, AreInnermost, InEndOrder}
-use Rattle.realm_core.specs.Reports.{with_end}
+use Rattle.std.proofs.Common.{[], ℕ, ◌++◌, ◌+◌, ◌==◌, ◌||◌, ◌∙◌, ◌∷◌, ◌≡◌, ◌≢◌, Bool, List, None, Some, ap, arith, cond, false, inl, inr, map, refl, subst, sym, true}
+use Rattle.realm_core.specs.{Accepts, AreInnermost, EndClose, History, InEndOrder, Legal, LegalFrom, Limits, LogValue, advanced, closed, closing, cons_option, end_step, ended, entries_next, entry_of, followed, forked_count}
+use Rattle.realm_core.specs.{has_tasks, innermost, is_cancelled, is_fork, is_task_of, joined, list_any, log, mark_next, opening, range_with_len, verdict, violated, with_end}
+use Rattle.realm_core.proofs.Words.{append-nil, both_ways, cases_eq, closed_grows, closed_stays, closing_stays, count_push, eq-eqb, forking_same, innermost_unclosed, joined_grows, legal_push, log_grows, ne_eqb, opening_same}
+use Rattle.realm_core.proofs.Words.{or_from, violated_grows}
 use Rattle.realm_core.proofs.ClosingCancels.{closing_cancelled}
+use Rattle.scope_log.specs.declared.entries.LogEntry.TheVariants as entry
 
 -- ---- lists of ends
 

@@ -1,19 +1,7 @@
 -- Where the close of a scope can end, nothing refuses it.
-use Rattle.std.proofs.Common.{◌≡◌, ℕ, ◌==◌, Bool, true, false, not, cond, Ok, [], ◌∷◌, refl, subst, inl, inr}
-use Rattle.std.proofs.lemmas.Bool.{eq-eqb}
-use Rattle.scope_rules.specs.declared.types.capacity.Limits.{Limits}
-use Rattle.scope_rules.specs.declared.types.events.Event.TheVariants.{EndClose}
-use Rattle.scope_rules.specs.declared.types.refusals.Refusal.TheVariants.{WrongStage}
-use Rattle.scope_rules.specs.History.{History}
-use Rattle.scope_rules.specs.Tasks.{stage, is_running}
-use Rattle.scope_rules.specs.Checks.{Checked, checks, then_check, refuse_if, task_check, actor_check, owns, is_innermost, known_actor}
-use Rattle.scope_rules.specs.Table.{check_of, row_check}
-use Rattle.scope_rules.specs.Legal.{Legal}
-use Rattle.scope_rules.proofs.PassedRows.{IsActor}
-use Rattle.scope_rules.proofs.Stages.{running_forked}
-use Rattle.scope_rules.proofs.ClosingOwners.{owners_act}
-use Rattle.scope_checks.proofs.Checked.{scope_passes, task_passes}
-use Rattle.realm_core.specs.Endings.{CanEnd}
+use Rattle.std.proofs.Common.{[], ℕ, ◌==◌, ◌∷◌, ◌≡◌, Bool, Ok, cond, false, inl, inr, not, refl, subst, true}
+use Rattle.realm_core.specs.{CanEnd, Checked, EndClose, History, Legal, Limits, WrongStage, actor_check, check_of, checks, is_innermost, is_running, known_actor, owns, refuse_if, row_check, stage, task_check, then_check}
+use Rattle.realm_core.proofs.Words.{IsActor, eq-eqb, owners_act, running_forked, scope_passes, task_passes}
 
 task_acts : (h : History) (a : ℕ) → is_running (stage h a) ≡ true → checks (task_check h a ∷ refuse_if (not (is_running (stage h a))) WrongStage ∷ []) ≡ Ok tt
 unfolding checks then_check

@@ -1,20 +1,8 @@
 -- One end of a close after the other.
-use Rattle.std.specs.Prelude.{IsOk}
-use Rattle.std.proofs.Common.{◌≡◌, ◌≢◌, ℕ, ◌<◌, Some, None, Result, Ok, Err, List, [], ◌∷◌, ◌++◌, map, sym, ap, ◌∙◌, subst}
-use Rattle.std.proofs.lemmas.List.{append_assoc, map-append}
-use Rattle.scope_rules.specs.declared.types.capacity.Limits.{Limits}
-use Rattle.scope_rules.specs.declared.types.events.Event.TheVariants.{EndClose}
-use Rattle.scope_rules.specs.History.{History, followed}
-use Rattle.scope_rules.specs.Scopes.{innermost}
-use Rattle.scope_rules.specs.Verdicts.{verdict}
-use Rattle.scope_rules.proofs.Innermosts.{unclosed_innermost}
-use Rattle.share_ledger.specs.declared.steps.RealmStep.{RealmStep}
-use Rattle.share_ledger.specs.Steps.{history_of, IsLegal}
-use Rattle.share_ledger.proofs.Histories.{advanced-append, history-push, legal_history}
-use Rattle.realm_core.specs.Endings.{CanEnd, CanClose}
-use Rattle.realm_core.proofs.Closes.{goes_on}
-use Rattle.realm_core.specs.Ends.{end_step, ended, AreInnermost, Ends, EndsInnermost}
-use Rattle.realm_core.proofs.EndChains.{innermost-append, advanced_ends, verdict_same}
+use Rattle.std.proofs.Common.{[], ℕ, ◌++◌, ◌<◌, ◌∙◌, ◌∷◌, ◌≡◌, ◌≢◌, Err, IsOk, List, None, Ok, Result, Some, ap, map, subst, sym}
+use Rattle.realm_core.specs.{AreInnermost, CanClose, CanEnd, EndClose, Ends.Ends, EndsInnermost, History, IsLegal, Limits, RealmStep, end_step, ended, followed, history_of, innermost, verdict}
+use Rattle.realm_core.proofs.Words.{advanced-append, append_assoc, history-push, legal_history, map-append, unclosed_innermost}
+use Rattle.realm_core.proofs.{Closes.goes_on, EndChains.advanced_ends, EndChains.innermost-append, EndChains.verdict_same}
 
 -- while a close can end, the actor has an innermost scope
 pub inner_there : (h : History) (a s : ℕ) → CanClose h a s → innermost h a ≡ None → ⊥

@@ -1,22 +1,11 @@
 -- From the scope inwards, the tickets of each scope's tasks are brought behind those before.
-use Rattle.std.proofs.Common.{◌≡◌, ◌≢◌, ℕ, ◌+◌, ◌<◌, ◌≤◌, ◌==◌, ◌&&◌, ◌||◌, Bool, true, false, not, cond, nat_lt, Option, Some, None, List, length, take, slice_get, count_by, IsPermutation, refl, ap, sym, ◌∙◌, subst, arith, inl, inr}
-use Rattle.std.specs.Prelude.{IsSome}
-use Rattle.std.specs.Option.{option_map_or}
-use Rattle.std.proofs.lemmas.Bool.{both_ways, cases_lt, eqb-true, eq-eqb, ne_eqb, ltb-true, lt-ltb, and_parts, not-true, false_from_ne_true}
-use Rattle.std.proofs.lemmas.List.Sorted.{IsPermutation-refl, IsPermutation-sym, IsPermutation-trans, sum_by-IsPermutation, All-permutation}
-use Rattle.std.proofs.Math.Seq.{take-length}
-use Rattle.std.proofs.lemmas.Option.{slice_get_cases}
-use Rattle.scope_rules.specs.declared.types.records.Forking.{Forking}
-use Rattle.scope_rules.specs.declared.types.records.Opening.{Opening}
-use Rattle.scope_rules.specs.History.{History, opening, forking}
-use Rattle.scope_rules.specs.Completions.{is_task_of}
-use Rattle.scope_rules.specs.Nests.{inner}
-use Rattle.scope_rules.specs.Scopes.{closed, covers, have_one_opener}
-use Rattle.scope_rules.proofs.Innermosts.{HasUnclosed}
-use Rattle.share_ledger.specs.Values.{TicketValue, one_if}
-use Rattle.realm_core.specs.Tickets.{got_thread, is_due, is_ticket_of, has_ended, AllEnded, is_ended_ticket_of, AreTicketsOf, ArePlaced, IsMissing}
-use Rattle.realm_core.proofs.TicketCounts.{count_one_more, count_first, count_up_to, all_at}
-use Rattle.realm_core.proofs.Walks.{inner_is, inner_none}
+use Rattle.std.proofs.Common.{ℕ, ◌&&◌, ◌+◌, ◌<◌, ◌==◌, ◌||◌, ◌∙◌, ◌≡◌, ◌≢◌, ◌≤◌, Bool, IsPermutation, IsSome, List, None, Option, Some, ap, arith, cond, count_by, false, inl, inr, length, nat_lt, not, refl, slice_get, subst, sym}
+use Rattle.std.proofs.Common.{take, true}
+use Rattle.realm_core.specs.{AllEnded, ArePlaced, AreTicketsOf, Forking, History, IsMissing, Opening, TicketValue, closed, covers, forking, got_thread, has_ended, have_one_opener, inner, is_due, is_ended_ticket_of, is_task_of}
+use Rattle.realm_core.specs.{is_ticket_of, one_if, opening, option_map_or}
+use Rattle.realm_core.proofs.Words.{All-permutation, HasUnclosed, IsPermutation-refl, IsPermutation-sym, IsPermutation-trans, and_parts, both_ways, cases_lt, eq-eqb, eqb-true, false_from_ne_true, lt-ltb, ltb-true, ne_eqb}
+use Rattle.realm_core.proofs.Words.{not-true, slice_get_cases, sum_by-IsPermutation, take-length}
+use Rattle.realm_core.proofs.{TicketCounts.all_at, TicketCounts.count_first, TicketCounts.count_one_more, TicketCounts.count_up_to, Walks.inner_is, Walks.inner_none}
 
 -- ---- what the close covers
 

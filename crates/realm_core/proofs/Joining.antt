@@ -1,22 +1,7 @@
 -- How what calls did is put together, if one follows another.
-use Rattle.std.proofs.Common.{◌≡◌, ℕ, Result, Ok, Err, List, [], ◌∷◌, ◌++◌, refl, ap, subst, ◌∙◌, inl, inr}
-use Rattle.std.proofs.lemmas.List.{append_assoc}
-use Rattle.std.proofs.lemmas.List.Folds.{list_any-append}
-use Rattle.std.proofs.lemmas.Bool.{or_from}
-use Rattle.std.specs.List.{list_any}
-use Rattle.scope_rules.specs.declared.types.capacity.Limits.{Limits}
-use Rattle.share_ledger.specs.declared.steps.RealmStep.{RealmStep}
-use Rattle.share_ledger.specs.declared.steps.Holder.{Holder}
-use Rattle.scope_rules.specs.declared.types.events.Event.TheVariants.{Join}
-use Rattle.scope_rules.specs.declared.types.refusals.Refusal.{Refusal}
-use Rattle.share_ledger.specs.declared.steps.RealmStep.TheVariants.{Happened}
-use Rattle.share_ledger.specs.declared.steps.Holder.TheVariants.{TokenOf}
-use Rattle.share_ledger.specs.Holders.{is_own, Agrees, Looks, Adds}
-use Rattle.share_ledger.specs.Values.{OwnerValue}
-use Rattle.realm_core.specs.Calls.{SeesMore}
-use Rattle.realm_core.specs.Views.{Joins, JoinsBare}
-use Rattle.realm_core.specs.declared.joins.Joined.{Joined}
-use Rattle.scope_index.specs.declared.bare.BareOutcome.{BareOutcome}
+use Rattle.std.proofs.Common.{[], ℕ, ◌++◌, ◌∙◌, ◌∷◌, ◌≡◌, Err, List, Ok, Result, ap, inl, inr, refl, subst}
+use Rattle.realm_core.specs.{Adds, Agrees, BareOutcome, Happened, Holder, Join, Joined, Joins, JoinsBare, Limits, Looks, OwnerValue, RealmStep, Refusal, SeesMore, TokenOf, is_own, list_any}
+use Rattle.realm_core.proofs.Words.{append_assoc, list_any-append, or_from}
 
 nothing_more : {A : Type 0} (xs : List A) → xs ≡ xs ++ []
 nothing_more [] = refl

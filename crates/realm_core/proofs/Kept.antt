@@ -1,44 +1,12 @@
 -- An actor's scope that is not closed stays so, whatever others do.
-use Rattle.std.proofs.Common.{◌≡◌, ℕ, ◌==◌, ◌||◌, Bool, true, false, Some, None, Result, Ok, Err, List, [], ◌∷◌, ◌++◌, refl, sym, ap, ◌∙◌, subst}
-use Rattle.std.specs.Prelude.{IfOk, MatchResult}
-use Rattle.std.proofs.lemmas.Bool.{both_ways, eq-eqb, or_from, false_from_ne_true}
-use Rattle.scope_rules.specs.declared.types.answers.Cancelling.{Cancelling}
-use Rattle.scope_rules.specs.declared.types.answers.Cancelling.TheVariants.{Recorded, Already}
-use Rattle.scope_rules.specs.declared.types.capacity.Limits.{Limits}
-use Rattle.scope_rules.specs.declared.types.events.Event.{Event}
-use Rattle.scope_rules.specs.declared.types.events.Event.TheVariants.{BeginClose}
-use Rattle.scope_rules.specs.declared.types.records.Opening.{Opening}
-use Rattle.scope_rules.specs.declared.types.refusals.Refusal.{Refusal}
-use Rattle.scope_rules.specs.History.{History, followed}
-use Rattle.scope_rules.specs.Scopes.{closed, closing, covers, ends}
-use Rattle.scope_rules.specs.Checks.{checks, then_check, owns}
-use Rattle.scope_rules.specs.Table.{check_of, row_check}
-use Rattle.scope_rules.specs.Legal.{Accepts, Legal}
-use Rattle.scope_rules.proofs.Accepted.{checks_at}
-use Rattle.scope_rules.proofs.ClosingOwners.{owners_act, live_is_unclosed}
-use Rattle.scope_rules.proofs.ClosingScopes.{nothing_open}
-use Rattle.scope_rules.proofs.Growing.{opening_stays}
-use Rattle.scope_rules.proofs.OneEventMore.{closed_grows, closing_grows, closing_stays}
-use Rattle.scope_rules.proofs.PassedRows.{IsActor, ender_passed, owner_passed}
-use Rattle.scope_checks.proofs.Checked.{scope_passes}
-use Rattle.share_ledger.specs.declared.steps.RealmStep.{RealmStep}
-use Rattle.share_ledger.specs.declared.steps.RealmStep.TheVariants.{Happened, Asked, Retirement}
-use Rattle.share_ledger.specs.declared.steps.Ask.{Ask}
+use Rattle.std.proofs.Common.{[], ℕ, ◌++◌, ◌==◌, ◌||◌, ◌∙◌, ◌∷◌, ◌≡◌, Bool, Err, IfOk, List, MatchResult, None, Ok, Result, Some, ap, false, refl, subst, sym, true}
+use Rattle.realm_core.specs.{Accepts, Added, Agrees, Already, Ask, Asked, BeginClose, CanClose, Cancelling, CloseReport, DidRecord, Ends.Ends, EndsLater, Event, FoundSo, FoundUnsettled, Happened, HasLooked, History, HoldsUp}
+use Rattle.realm_core.specs.{IsBegun, IsDone, IsLeft, IsLegal, IsOpenOf, Legal, Limits, Looks, MayReport, Opening, OwnerValue, Passes, RealmStep, Recorded, Refusal, Refused, Retirement, TicketValue, TokenOf, WaitsOn, advance}
+use Rattle.realm_core.specs.{asked, check_of, checks, closed, closing, covers, ends, followed, history_of, history_seen, is_own, owns, row_check, step_by, then_check}
+use Rattle.realm_core.proofs.Words.{IsActor, beginning_legal, both_ways, checks_at, closed_grows, closing_grows, closing_stays, ender_passed, eq-eqb, false_from_ne_true, history-push, legal_history, live_is_unclosed, nothing_open}
+use Rattle.realm_core.proofs.Words.{opening_stays, or_from, owner_passed, owners_act, retired_without_scopes, scope_passes}
+use Rattle.realm_core.proofs.{EndPasses.actor_passes, Joining.agrees_on, Others.still}
 use Rattle.share_ledger.specs.declared.steps.Ask.TheVariants as ask
-use Rattle.share_ledger.specs.declared.steps.Holder.TheVariants.{TokenOf}
-use Rattle.share_ledger.specs.Holders.{is_own, Agrees, Looks}
-use Rattle.share_ledger.specs.Steps.{advance, asked, step_by, history_of, Passes, IsLegal}
-use Rattle.share_ledger.proofs.Histories.{history-push, beginning_legal, legal_history, retired_without_scopes}
-use Rattle.share_ledger.specs.Values.{OwnerValue, TicketValue}
-use Rattle.realm_core.specs.Calls.{history_seen, HasLooked, Added, Refused, FoundSo, DidRecord}
-use Rattle.realm_core.specs.Endings.{CanClose}
-use Rattle.realm_core.proofs.EndPasses.{actor_passes}
-use Rattle.realm_core.proofs.Joining.{agrees_on}
-use Rattle.realm_core.proofs.Others.{still}
-use Rattle.realm_core.specs.Closes.{IsBegun, EndsLater, WaitsOn, IsDone, IsLeft, MayReport}
-use Rattle.realm_core.specs.Ends.{Ends}
-use Rattle.realm_core.specs.declared.reports.CloseReport.{CloseReport}
-use Rattle.realm_core.specs.Waiting.{IsOpenOf, HoldsUp, FoundUnsettled}
 
 -- ---- one step of another's
 

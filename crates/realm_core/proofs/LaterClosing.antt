@@ -1,22 +1,10 @@
 -- In a legal history, what an owner opened later than a scope whose close has begun, and has not closed,
 -- is closing too.
-use Rattle.std.proofs.Common.{◌≡◌, ℕ, ◌+◌, ◌<◌, ◌≤◌, cond, ◌==◌, ◌||◌, Bool, true, false, not, Option, Some, None, [], length, refl, sym, ap, ◌∙◌, subst, arith, inl, inr, ◌⊎◌}
-use Rattle.std.proofs.lemmas.Bool.{both_ways, eqb-true, eq-eqb, cases_lt, and_parts, and_from, ltb-true, lt-ltb}
-use Rattle.scope_rules.specs.declared.types.capacity.Limits.{Limits}
-use Rattle.scope_rules.specs.declared.types.events.Event.{Event}
-use Rattle.scope_rules.specs.declared.types.events.Event.TheVariants.{Open, BeginClose}
-use Rattle.scope_rules.specs.declared.types.records.Opening.{Opening}
-use Rattle.scope_rules.specs.Origin.{Origin}
-use Rattle.scope_rules.specs.Search.{earliest}
-use Rattle.scope_rules.specs.History.{History, followed, opening, opening_of, is_open, scopes}
-use Rattle.scope_rules.specs.Scopes.{closed, closing, covers, begins_closing, have_one_opener, innermost}
-use Rattle.scope_rules.specs.Checks.{in_closing}
-use Rattle.scope_rules.specs.Table.{row_check}
-use Rattle.scope_rules.proofs.Accepted.{checks_at, not_refused}
-use Rattle.scope_rules.proofs.Owing.{count_push}
-use Rattle.scope_rules.specs.Legal.{Accepts, Legal}
-use Rattle.scope_rules.proofs.OneEventMore.{along, opening_split, unclosed_earlier, closing_grows, closing_stays}
-use Rattle.scope_rules.proofs.Innermosts.{opened_after, innermost_unclosed, unclosed_innermost}
+use Rattle.std.proofs.Common.{[], ℕ, ◌+◌, ◌<◌, ◌==◌, ◌||◌, ◌∙◌, ◌≡◌, ◌≤◌, ◌⊎◌, Bool, None, Option, Some, ap, arith, cond, false, inl, inr, length, not, refl, subst, sym, true}
+use Rattle.realm_core.specs.{Accepts, BeginClose, Event, History, Legal, Limits, Open, Opening, Origin, begins_closing, closed, closing, covers, earliest, followed, have_one_opener, in_closing, innermost, is_open, opening}
+use Rattle.realm_core.specs.{opening_of, row_check, scopes}
+use Rattle.realm_core.proofs.Words.{along, and_from, and_parts, both_ways, cases_lt, checks_at, closing_grows, closing_stays, count_push, eq-eqb, eqb-true, innermost_unclosed, lt-ltb, ltb-true, not_refused, opened_after}
+use Rattle.realm_core.proofs.Words.{opening_split, unclosed_earlier, unclosed_innermost}
 
 abbrev LaterClose : History → Type 0
 LaterClose h = (s t : ℕ) (o x : Opening) → opening h s ≡ Some o → opening h t ≡ Some x → o.actor ≡ x.actor → s < t → closing h s ≡ true → closed h s ≡ false → closed h t ≡ false → closing h t ≡ true

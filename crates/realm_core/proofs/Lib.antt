@@ -25,3 +25,4 @@ pub mod TicketCounts
 pub mod Placing
 pub mod Gathering
 pub mod Shown
+mod Words

@@ -1,38 +1,11 @@
 -- Of each task that has ended, the log of its scope has one start and then one finish.
-use Rattle.std.proofs.Common.{◌≡◌, ℕ, ◌==◌, ◌||◌, Bool, true, false, cond, Option, Some, None, option_map, List, [], ◌∷◌, ◌++◌, length, refl, ap, sym, ◌∙◌, subst}
-use Rattle.std.proofs.lemmas.Bool.{eqb-true, eq-eqb, false_from_ne_true}
-use Rattle.std.proofs.lemmas.List.{append-nil}
-use Rattle.std.proofs.lemmas.List.Elements.{filter-append}
-use Rattle.std.specs.Option.{option_or, option_map_or}
-use Rattle.std.specs.List.{filter, cons_option}
-use Rattle.scope_rules.specs.declared.types.answers.Cause.{Cause}
-use Rattle.scope_rules.specs.declared.types.capacity.Limits.{Limits}
-use Rattle.scope_rules.specs.declared.types.events.Event.{Event}
-use Rattle.scope_rules.specs.declared.types.events.Event.TheVariants.{Start, Finish}
-use Rattle.scope_rules.specs.declared.types.records.Ending.{Ending}
-use Rattle.scope_rules.specs.declared.types.records.Forking.{Forking}
-use Rattle.scope_rules.specs.declared.types.records.Opening.{Opening}
-use Rattle.scope_rules.specs.Ends.{EndValue}
-use Rattle.scope_rules.specs.Origin.{Origin}
-use Rattle.scope_rules.specs.Search.{earliest}
-use Rattle.scope_rules.specs.History.{History, followed, opening, forking}
-use Rattle.scope_rules.specs.Completions.{is_task_of}
-use Rattle.scope_rules.specs.Cancels.{cancelled_before}
-use Rattle.scope_rules.specs.Tasks.{stage, rejected, started, starts, finished, finishes, ending, ending_of, is_waiting, is_running}
-use Rattle.scope_rules.specs.Legal.{Accepts, Legal}
-use Rattle.scope_rules.proofs.CompletionSteps.{is_task_stays}
-use Rattle.scope_rules.proofs.Forkings.{IsForked}
-use Rattle.scope_rules.proofs.OneEventMore.{along, started_grows}
-use Rattle.scope_rules.proofs.PassedRows.{starter_passed, finisher_passed}
-use Rattle.scope_rules.proofs.Stages.{staged, stage_is, waiting_forked, running_forked}
-use Rattle.scope_rules.proofs.StageSteps.{started_forked, finished_forked}
-use Rattle.scope_rules.proofs.StateSteps.{ending_grows, no_ending}
-use Rattle.scope_log.specs.declared.entries.LogEntry.{LogEntry}
+use Rattle.std.proofs.Common.{[], ℕ, ◌++◌, ◌==◌, ◌||◌, ◌∙◌, ◌∷◌, ◌≡◌, Bool, List, None, Option, Some, ap, cond, false, length, option_map, refl, subst, sym, true}
+use Rattle.realm_core.specs.{Accepts, Cause, EndValue, Ending, Event, Finish, Forking, History, Legal, Limits, LogEntry, LogValue, LogsShowRuns, Opening, Origin, Start, cancelled_before, cons_option, earliest, ending, ending_of}
+use Rattle.realm_core.specs.{entries, entries_next, entry_of, filter, finished, finishes, followed, forking, is_of, is_running, is_task_of, is_waiting, log, mark_of, opening, option_map_or, option_or, rejected, runs_task, said}
+use Rattle.realm_core.specs.{stage, started, starts}
+use Rattle.realm_core.proofs.Words.{IsForked, along, append-nil, ending_grows, entries_grow, eq-eqb, eqb-true, false_from_ne_true, filter-append, finished_forked, finisher_passed, is_task_stays, no_ending, running_forked}
+use Rattle.realm_core.proofs.Words.{stage_is, staged, started_forked, started_grows, starter_passed, unended, waiting_forked}
 use Rattle.scope_log.specs.declared.entries.LogEntry.TheVariants as entry
-use Rattle.scope_log.specs.Log.{LogValue, is_of, said, entry_of, mark_of, entries, entries_next, log}
-use Rattle.scope_log.proofs.LogSteps.{entries_grow}
-use Rattle.scope_log.proofs.LogStates.{unended}
-use Rattle.realm_core.specs.Runs.{runs_task, LogsShowRuns}
 
 -- ---- what one event adds
 

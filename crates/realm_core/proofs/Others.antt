@@ -1,14 +1,7 @@
 -- What no step of another's takes away of what a token shows is so still, after any number of them.
-use Rattle.std.proofs.Common.{◌≡◌, ℕ, ◌||◌, Bool, false, List, [], ◌∷◌, ◌++◌, refl, sym, ap, ◌∙◌, subst}
-use Rattle.std.specs.List.{list_any}
-use Rattle.scope_rules.specs.declared.types.capacity.Limits.{Limits}
-use Rattle.scope_rules.specs.History.{History}
-use Rattle.scope_rules.specs.Legal.{Legal}
-use Rattle.share_ledger.specs.declared.steps.RealmStep.{RealmStep}
-use Rattle.share_ledger.specs.declared.steps.Holder.TheVariants.{TokenOf}
-use Rattle.share_ledger.specs.Holders.{is_own, Agrees}
-use Rattle.share_ledger.specs.Steps.{advance, advanced, history_of, Passes, LegalFrom, IsLegal}
-use Rattle.share_ledger.proofs.Histories.{advanced-append, legal_advance, legal_beginning, legal_history}
+use Rattle.std.proofs.Common.{[], ℕ, ◌++◌, ◌||◌, ◌∙◌, ◌∷◌, ◌≡◌, Bool, List, ap, false, refl, subst, sym}
+use Rattle.realm_core.specs.{Agrees, History, IsLegal, Legal, LegalFrom, Limits, Passes, RealmStep, TokenOf, advance, advanced, history_of, is_own, list_any}
+use Rattle.realm_core.proofs.Words.{advanced-append, legal_advance, legal_beginning, legal_history}
 
 not_or : (b c : Bool) → (b || c) ≡ false → (b ≡ false) × (c ≡ false)
 not_or false false so = (refl, refl)

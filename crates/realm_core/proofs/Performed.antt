@@ -1,38 +1,13 @@
 -- What a command of the realm, and the keeper's step after it, come to.
-use Rattle.std.proofs.Common.{◌≡◌, ℕ, true, false, Bool, ◌⊎◌, inl, inr, Result, Ok, Err, is_ok, [], ◌∷◌, ◌++◌, refl, sym, ap, ◌∙◌, subst}
-use Rattle.std.specs.Prelude.{if◌then◌else◌, IfOk}
-use Rattle.scope_rules.specs.declared.types.capacity.Limits.{Limits}
-use Rattle.scope_rules.specs.declared.types.events.Event.{Event}
-use Rattle.scope_rules.specs.declared.types.events.Event.TheVariants.{Fork, Finish, Cancel, Move, Tick, BeginClose, EndClose}
-use Rattle.scope_rules.specs.declared.types.refusals.Refusal.{Refusal}
-use Rattle.scope_rules.specs.declared.types.refusals.Refusal.TheVariants.{Memory}
-use Rattle.scope_rules.specs.Ends.{LabelValue, EndValue}
-use Rattle.scope_rules.specs.History.{History, followed}
-use Rattle.scope_rules.specs.Checks.{Checked}
-use Rattle.scope_rules.specs.declared.types.answers.ForkReply.{ForkReply}
-use Rattle.scope_rules.specs.declared.types.answers.Verdict.{Verdict}
-use Rattle.scope_rules.specs.Verdicts.{verdict}
-use Rattle.scope_rules.specs.Table.{check_of, is_already, retire_check}
-use Rattle.scope_rules.proofs.Accepted.{checks_at, not_refused, not_not}
-use Rattle.std.proofs.lemmas.Bool.{cases_Bool, eqb-true}
-use Rattle.scope_rules.specs.Legal.{Accepts}
-use Rattle.scope_rules.specs.Replies.{Realm, Answers, AnswersOrMemory, with_event, fork_reply, base_of}
-use Rattle.scope_checks.specs.declared.event_replies.EventReply.{EventReply}
+use Rattle.std.proofs.Common.{[], ℕ, ◌++◌, ◌∙◌, ◌∷◌, ◌≡◌, ◌⊎◌, Bool, Err, IfOk, Ok, Result, ap, false, if◌then◌else◌, inl, inr, is_ok, refl, subst, sym, true}
+use Rattle.realm_core.specs.{Accepted, Accepts, Answers, AnswersOrMemory, BeginClose, Cancel, Checked, DidOrMemory, DidPerform, EndClose, EndValue, Event, EventReply, Finish, FitsEvent, Fork, ForkReply, FoundSo, Happened, History}
+use Rattle.realm_core.specs.{KeeperValue, LabelValue, Limits, Memory, Move, Origin, OutOfMemory, OwnerAgrees, OwnerValue, Passes, Performs, Realm, RealmStep, Refusal, Refused, Retirement, TableId, Tick, Tied, TokenOf, Verdict}
+use Rattle.realm_core.specs.{Words.noted, advance, after_telling, base_of, check_of, event_reply_of, followed, fork_reply, history_of, history_seen, is_already, is_recorded_by, records, retire_check, step_by, step_check, verdict}
+use Rattle.realm_core.specs.{wants_memory, with_event}
+use Rattle.realm_core.proofs.Words.{cases_Bool, checks_at, eqb-true, history-push, not_not, not_refused}
+use Rattle.realm_core.proofs.Steps.{adds_now, looks_now, passes_here, same_limits, stepped, tied_next}
 use Rattle.scope_checks.specs.declared.event_replies.EventReply.TheVariants as told
-use Rattle.scope_checks.specs.EventReplies.{noted, event_reply_of, wants_memory, Performs, records, after_telling}
-use Rattle.scope_rules.specs.Origin.{Origin}
-use Rattle.share_ledger.specs.declared.steps.RealmStep.{RealmStep}
-use Rattle.share_ledger.specs.declared.steps.RealmStep.TheVariants.{Happened, Retirement}
-use Rattle.share_ledger.specs.declared.steps.Holder.TheVariants.{TokenOf}
-use Rattle.share_ledger.specs.Steps.{advance, history_of, step_by, Passes}
-use Rattle.share_ledger.proofs.Histories.{history-push}
-use Rattle.atomic_table.specs.Seated.{TableId}
-use Rattle.share_ledger.specs.Values.{KeeperValue, OwnerValue, OwnerAgrees, is_recorded_by}
-use Rattle.realm_state.specs.Fits.{FitsEvent}
-use Rattle.realm_core.specs.Cores.{Tied}
-use Rattle.realm_core.specs.Calls.{history_seen, step_check, Accepted, Refused, OutOfMemory, FoundSo, DidOrMemory, DidPerform}
 use Rattle.realm_core.specs.Telling.{told as told_of_keeper}
-use Rattle.realm_core.proofs.Steps.{stepped, tied_next, same_limits, looks_now, passes_here, adds_now}
 
 -- an accepted command passed its check, and answers its value
 pub answered : {A : Type 0} (check : Checked) (value answer : A) → AnswersOrMemory check value (Ok answer) → (check ≡ Ok tt) × (answer ≡ value)

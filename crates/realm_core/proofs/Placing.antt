@@ -1,13 +1,8 @@
 -- How the tickets of a scope's tasks are brought into the tasks' order.
-use Rattle.std.proofs.Common.{◌≡◌, ℕ, ◌+◌, ◌≤◌, ◌==◌, ◌&&◌, ◌||◌, Bool, true, false, Some, None, List, length, take, slice_get, count_by, IsPermutation, refl, ap, sym, ◌∙◌, subst, arith, inl, inr}
-use Rattle.std.proofs.lemmas.Bool.{eqb-true, and_parts}
-use Rattle.std.proofs.lemmas.List.Sorted.{IsPermutation-refl, IsPermutation-trans, length_permutation}
-use Rattle.std.proofs.lemmas.Option.{slice_get_within}
-use Rattle.scope_rules.specs.History.{History}
-use Rattle.scope_rules.specs.Nests.{tasks_of}
-use Rattle.share_ledger.specs.Values.{TicketValue, one_if}
-use Rattle.realm_core.specs.Tickets.{got_thread, is_ticket_of, has_ended, AllEnded, IsBrought, MayPlaceOne, ArePlaced, IsMissing}
-use Rattle.realm_core.proofs.TicketCounts.{count_one_more, all_one_more, is_among, among_one_more, task_once, task_is, among_tasks}
+use Rattle.std.proofs.Common.{ℕ, ◌&&◌, ◌+◌, ◌==◌, ◌||◌, ◌∙◌, ◌≡◌, ◌≤◌, Bool, IsPermutation, List, None, Some, ap, arith, count_by, false, inl, inr, length, refl, slice_get, subst, sym, take, true}
+use Rattle.realm_core.specs.{AllEnded, ArePlaced, History, IsBrought, IsMissing, MayPlaceOne, TicketValue, got_thread, has_ended, is_ticket_of, one_if, tasks_of}
+use Rattle.realm_core.proofs.Words.{IsPermutation-refl, IsPermutation-trans, and_parts, eqb-true, length_permutation, slice_get_within}
+use Rattle.realm_core.proofs.TicketCounts.{all_one_more, among_one_more, among_tasks, count_one_more, is_among, task_is, task_once}
 
 -- the tickets of the first i of these tasks are at their places
 pub record IsPlacing (h : History) (tasks : List ℕ) (first : ℕ) (old now : List TicketValue) (place i : ℕ) : Type 0 where

@@ -1,21 +1,8 @@
 -- What will be shown is made from the scope inwards, and is in the order of the ends once it is reversed.
-use Rattle.std.proofs.Common.{◌≡◌, ℕ, true, Option, Some, None, option_map, List, [], ◌∷◌, ◌++◌, reverse, refl, sym, ◌∙◌, subst, arith}
-use Rattle.std.specs.Prelude.{IsSome}
-use Rattle.std.proofs.lemmas.List.{reverse-append}
-use Rattle.scope_rules.specs.declared.types.answers.Verdict.{Verdict}
-use Rattle.scope_rules.specs.declared.types.capacity.Limits.{Limits}
-use Rattle.scope_rules.specs.History.{History, opening}
-use Rattle.scope_rules.specs.Nests.{inner}
-use Rattle.scope_rules.specs.Scopes.{closing}
-use Rattle.scope_rules.specs.Verdicts.{verdict}
-use Rattle.scope_rules.specs.Legal.{Legal}
-use Rattle.scope_rules.proofs.Innermosts.{HasUnclosed}
-use Rattle.scope_log.specs.Log.{LogValue, log}
-use Rattle.realm_core.specs.Endings.{CanClose}
-use Rattle.realm_core.proofs.LaterClosing.{later_closing}
-use Rattle.realm_core.specs.Ends.{InEndOrder}
-use Rattle.realm_core.specs.Reports.{Shown, numbers, with_end, ArePrepared}
-use Rattle.realm_core.proofs.Walks.{IsNext, IsWalked, walk_on, walk_rises, top_unclosed, walked_order, inner_is, inner_none}
+use Rattle.std.proofs.Common.{[], ℕ, ◌++◌, ◌∙◌, ◌∷◌, ◌≡◌, IsSome, List, None, Option, Some, arith, option_map, refl, reverse, subst, sym, true}
+use Rattle.realm_core.specs.{ArePrepared, CanClose, History, InEndOrder, Legal, Limits, LogValue, Reports.Shown, Verdict, closing, inner, log, numbers, opening, verdict, with_end}
+use Rattle.realm_core.proofs.Words.{HasUnclosed, reverse-append}
+use Rattle.realm_core.proofs.{LaterClosing.later_closing, Walks.IsNext, Walks.IsWalked, Walks.inner_is, Walks.inner_none, Walks.top_unclosed, Walks.walk_on, Walks.walk_rises, Walks.walked_order}
 
 -- what was made so far, the latest scope first, and which scope comes next
 pub record IsPreparing (h : History) (a s : ℕ) (shown : List Shown) (next : Option ℕ) : Type 0 where

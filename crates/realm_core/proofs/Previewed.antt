@@ -1,31 +1,9 @@
 -- What a join answers, by what was made before it.
-use Rattle.std.proofs.Common.{◌≡◌, ℕ, Option, Some, None, option_map, ◌⊎◌, inl, inr, Result, Ok, Err, is_ok, [], ◌∷◌, ◌++◌, refl, ap, ◌∙◌}
-use Rattle.std.specs.Option.{option_and_then}
-use Rattle.scope_rules.specs.declared.types.events.Event.TheVariants.{Join}
-use Rattle.scope_rules.specs.declared.types.outcomes.Outcome.{Outcome}
-use Rattle.scope_rules.specs.declared.types.refusals.Refusal.{Refusal}
-use Rattle.scope_rules.specs.declared.types.refusals.Refusal.TheVariants.{Memory}
-use Rattle.scope_rules.specs.History.{History, followed}
-use Rattle.scope_rules.specs.Outcomes.{outcome}
-use Rattle.scope_rules.specs.Checks.{Checked}
-use Rattle.scope_rules.specs.Replies.{AnswersValue}
-use Rattle.scope_rules.specs.Table.{check_of}
-use Rattle.scope_rules.specs.Legal.{Accepts}
-use Rattle.scope_rules.specs.Replies.{Realm, Answers}
-use Rattle.share_ledger.specs.declared.steps.RealmStep.TheVariants.{Happened}
-use Rattle.share_ledger.specs.declared.steps.Holder.TheVariants.{TokenOf}
-use Rattle.share_ledger.specs.Steps.{history_of}
-use Rattle.share_ledger.proofs.Histories.{history-push}
-use Rattle.atomic_table.specs.Seated.{TableId}
-use Rattle.share_ledger.specs.Values.{KeeperValue, OwnerValue, OwnerAgrees}
-use Rattle.realm_core.specs.Cores.{Tied}
-use Rattle.realm_core.specs.Telling.{told}
-use Rattle.realm_core.specs.Views.{DidJoin}
-use Rattle.realm_core.proofs.Steps.{adds_now}
-use Rattle.realm_core.proofs.Taken.{accepted_ok}
-use Rattle.scope_log.specs.declared.previews.Preview.{Preview}
-use Rattle.scope_log.specs.Log.{LogValue, log}
-use Rattle.scope_log.specs.Previews.{preview}
+use Rattle.std.proofs.Common.{[], ℕ, ◌++◌, ◌∙◌, ◌∷◌, ◌≡◌, ◌⊎◌, Err, None, Ok, Option, Result, Some, ap, inl, inr, is_ok, option_map, refl}
+use Rattle.realm_core.specs.{Accepts, Answers, AnswersValue, Checked, DidJoin, Happened, History, Join, KeeperValue, LogValue, Memory, Outcome, OwnerAgrees, OwnerValue, Preview, Realm, Refusal, TableId, Tied, TokenOf, check_of}
+use Rattle.realm_core.specs.{followed, history_of, log, option_and_then, outcome, preview, told}
+use Rattle.realm_core.proofs.Words.{history-push}
+use Rattle.realm_core.proofs.{Steps.adds_now, Taken.accepted_ok}
 
 -- a value was answered: the check passed, and it is the value
 pub value_told : {A : Type 0} (check : Checked) (value : Option A) (x : A) → AnswersValue check value (Ok x) → (check ≡ Ok tt) × (value ≡ Some x)

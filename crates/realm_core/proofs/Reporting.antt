@@ -1,20 +1,9 @@
 -- What was made before the ends is what is so after them.
-use Rattle.std.proofs.Common.{◌≡◌, ℕ, true, Option, Some, None, option_map, List, [], ◌∷◌, ◌++◌, map, refl, sym, ap, ◌∙◌, subst}
-use Rattle.scope_rules.specs.declared.types.answers.Verdict.{Verdict}
-use Rattle.scope_rules.specs.declared.types.capacity.Limits.{Limits}
-use Rattle.scope_rules.specs.History.{History}
-use Rattle.scope_rules.specs.Scopes.{closed}
-use Rattle.scope_rules.specs.Legal.{Legal}
-use Rattle.scope_rules.specs.Verdicts.{verdict}
-use Rattle.scope_log.specs.Log.{LogValue, log}
-use Rattle.share_ledger.specs.declared.steps.RealmStep.{RealmStep}
-use Rattle.share_ledger.specs.Steps.{advance, advanced, history_of, LegalFrom, IsLegal}
-use Rattle.share_ledger.proofs.Histories.{beginning_legal, legal_history}
-use Rattle.realm_core.specs.Endings.{CanClose}
-use Rattle.realm_core.specs.Ends.{end_step, ended, AreInnermost, InEndOrder, Ends}
-use Rattle.realm_core.specs.Reports.{Shown, numbers, with_end, IsPrepared, ArePrepared, IsReported, AreReported}
-use Rattle.realm_core.proofs.EndChains.{AllClosed, members_closed, all_closed, verdict_ended, log_ended, same_order}
-use Rattle.realm_core.proofs.EndSteps.{history_ended}
+use Rattle.std.proofs.Common.{[], ℕ, ◌++◌, ◌∙◌, ◌∷◌, ◌≡◌, List, None, Option, Some, ap, map, option_map, refl, subst, sym, true}
+use Rattle.realm_core.specs.{AreInnermost, ArePrepared, AreReported, CanClose, Ends.Ends, History, InEndOrder, IsLegal, IsPrepared, IsReported, Legal, LegalFrom, Limits, LogValue, RealmStep, Reports.Shown, Verdict, advance}
+use Rattle.realm_core.specs.{advanced, closed, end_step, ended, history_of, log, numbers, verdict, with_end}
+use Rattle.realm_core.proofs.Words.{beginning_legal, legal_history}
+use Rattle.realm_core.proofs.{EndChains.AllClosed, EndChains.all_closed, EndChains.log_ended, EndChains.members_closed, EndChains.same_order, EndChains.verdict_ended, EndSteps.history_ended}
 
 mapped : {A B : Type 0} (f : A → B) (o : Option A) (y : B) → option_map f o ≡ Some y → (x : A) × (o ≡ Some x) × (f x ≡ y)
 mapped f None y is = absurd cc

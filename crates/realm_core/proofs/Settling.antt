@@ -1,14 +1,8 @@
 -- The search for a scope of which a task waits or runs.
-use Rattle.std.proofs.Common.{◌≡◌, ℕ, suc, ◌+◌, ◌-◌, ◌<◌, ◌≤◌, true, false, Option, Some, None, refl, sym, subst, arith, inl, inr}
-use Rattle.std.proofs.lemmas.Bool.{cases_lt}
-use Rattle.scope_rules.specs.declared.types.records.Opening.{Opening}
-use Rattle.scope_rules.specs.History.{History, opening, scopes}
-use Rattle.scope_rules.specs.Nests.{inner}
-use Rattle.scope_rules.specs.Scopes.{closed}
-use Rattle.scope_rules.specs.Tasks.{settled}
-use Rattle.scope_rules.proofs.Innermosts.{HasUnclosed}
-use Rattle.realm_core.specs.Waiting.{FoundUnsettled}
-use Rattle.realm_core.proofs.Walks.{inner_is, inner_none, inner_later}
+use Rattle.std.proofs.Common.{ℕ, ◌+◌, ◌-◌, ◌<◌, ◌≡◌, ◌≤◌, None, Option, Some, arith, false, inl, inr, refl, subst, suc, sym, true}
+use Rattle.realm_core.specs.{FoundUnsettled, History, Opening, closed, inner, opening, scopes, settled}
+use Rattle.realm_core.proofs.Words.{HasUnclosed, cases_lt}
+use Rattle.realm_core.proofs.Walks.{inner_is, inner_later, inner_none}
 
 -- what comes before the next one is settled, or all if there is no next one
 abbrev IsMet : History → ℕ → ℕ → Option ℕ → Type 0

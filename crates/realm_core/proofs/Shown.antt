@@ -1,37 +1,9 @@
 -- What the report shows of each task that has a ticket.
-use Rattle.std.proofs.Common.{◌≡◌, ℕ, ◌<◌, Bool, true, false, Option, Some, None, is_some, List, [], ◌∷◌, ◌++◌, count_by, All, refl, ap, sym, ◌∙◌, subst, arith}
-use Rattle.std.specs.Option.{option_map_or}
-use Rattle.std.proofs.lemmas.Bool.{eq-eqb, and_parts}
-use Rattle.std.proofs.lemmas.List.Elements.{All-cons}
-use Rattle.scope_rules.specs.declared.types.capacity.Limits.{Limits}
-use Rattle.scope_rules.specs.declared.types.events.Event.TheVariants.{EndClose}
-use Rattle.scope_rules.specs.declared.types.records.Ending.{Ending}
-use Rattle.scope_rules.specs.declared.types.records.Forking.{Forking}
-use Rattle.scope_rules.specs.Ends.{EndValue}
-use Rattle.scope_rules.specs.History.{History, followed, forking}
-use Rattle.scope_rules.specs.Cancels.{cancelled_before}
-use Rattle.scope_rules.specs.Completions.{is_task_of}
-use Rattle.scope_rules.specs.Scopes.{covers}
-use Rattle.scope_rules.specs.Tasks.{ending}
-use Rattle.scope_rules.proofs.Completions.{count_by-cons}
-use Rattle.scope_rules.proofs.Forkings.{forked_after}
-use Rattle.scope_rules.proofs.Nesting.{IsOpened, forked_opened}
-use Rattle.scope_rules.proofs.OneEventMore.{forking_same}
-use Rattle.scope_log.specs.Log.{LogValue, entries, log}
-use Rattle.share_ledger.specs.declared.steps.RealmStep.{RealmStep}
-use Rattle.share_ledger.specs.Steps.{history_of, IsLegal}
-use Rattle.share_ledger.specs.StepLaws.{end_shown, grant_shown}
-use Rattle.share_ledger.specs.Tickets.{Grant, end_in}
-use Rattle.share_ledger.proofs.Ends.{tells_history}
-use Rattle.share_ledger.proofs.Histories.{legal_history}
-use Rattle.share_ledger.proofs.Told.{seen_tells}
-use Rattle.share_ledger.specs.Values.{TicketValue, one_if}
-use Rattle.realm_core.specs.Ends.{ended, Ends}
-use Rattle.realm_core.specs.Runs.{ShowsRun, IsShown}
-use Rattle.realm_core.specs.Tickets.{is_due, is_ticket_of, has_ended, AllEnded, AreTicketsOf, BearsOut}
-use Rattle.realm_core.proofs.EndSteps.{history_ended}
-use Rattle.realm_core.proofs.LogRuns.{runs_shown}
-use Rattle.realm_core.proofs.TicketCounts.{all_head, all_tail}
+use Rattle.std.proofs.Common.{[], ℕ, ◌++◌, ◌<◌, ◌∙◌, ◌∷◌, ◌≡◌, All, Bool, List, None, Option, Some, ap, arith, count_by, false, is_some, refl, subst, sym, true}
+use Rattle.realm_core.specs.{AllEnded, AreTicketsOf, BearsOut, EndClose, EndValue, Ending, Ends.Ends, Forking, Grant, History, IsLegal, IsShown, Limits, LogValue, RealmStep, ShowsRun, TicketValue, cancelled_before, covers, end_in}
+use Rattle.realm_core.specs.{end_shown, ended, ending, entries, followed, forking, grant_shown, has_ended, history_of, is_due, is_task_of, is_ticket_of, log, one_if, option_map_or}
+use Rattle.realm_core.proofs.Words.{All-cons, IsOpened, and_parts, count_by-cons, eq-eqb, forked_after, forked_opened, forking_same, legal_history, seen_tells, tells_history}
+use Rattle.realm_core.proofs.{EndSteps.history_ended, LogRuns.runs_shown, TicketCounts.all_head, TicketCounts.all_tail}
 
 -- the ends of a close fork nothing
 forking_ended : (h : History) (a k : ℕ) (ts : List ℕ) → forking (ended h a ts) k ≡ forking h k

@@ -1,32 +1,9 @@
 -- What a ticket says of its task from its start on: it is given, started, and has no end before its own.
-use Rattle.std.proofs.Common.{◌≡◌, ℕ, ◌||◌, ◌&&◌, Bool, true, false, not, cond, Option, Some, None, is_some, List, [], ◌∷◌, ◌++◌, refl, sym, ap, ◌∙◌, arith}
-use Rattle.std.proofs.lemmas.List.Folds.{list_any-append}
-use Rattle.std.proofs.Math.Bool.{or-false}
-use Rattle.std.specs.List.{list_any}
-use Rattle.std.specs.Option.{option_or}
-use Rattle.scope_rules.specs.declared.types.events.Event.TheVariants.{Start}
-use Rattle.scope_rules.specs.declared.types.answers.Stage.TheVariants.{Never, Waiting, Finished}
-use Rattle.scope_rules.specs.declared.types.records.Forking.{Forking}
-use Rattle.scope_rules.specs.Ends.{EndValue}
-use Rattle.scope_rules.specs.History.{History, forking}
-use Rattle.scope_rules.specs.Cancels.{cancelled_before}
-use Rattle.scope_rules.specs.Tasks.{stage, rejects, rejected, started, finished, ending}
-use Rattle.scope_rules.specs.Replies.{Realm}
-use Rattle.scope_rules.proofs.Forkings.{forked_after}
-use Rattle.scope_rules.proofs.Stages.{staged, stage_is, waiting_forked}
-use Rattle.scope_rules.proofs.StateSteps.{no_ending}
-use Rattle.share_ledger.specs.declared.steps.RealmStep.{RealmStep}
-use Rattle.share_ledger.specs.declared.steps.RealmStep.TheVariants.{Happened}
-use Rattle.share_ledger.specs.Steps.{history_of}
-use Rattle.share_ledger.specs.Tickets.{Grant, is_event, grant_in, rejected_in, started_in, end_in}
-use Rattle.share_ledger.specs.StepLaws.{end_shown}
-use Rattle.share_ledger.proofs.Waits.{given_ticket_waits}
-use Rattle.share_ledger.proofs.Told.{end_in-append, grant-append, seen_tells}
-use Rattle.share_ledger.proofs.Ends.{tells_history}
-use Rattle.atomic_table.specs.Seated.{TableId}
-use Rattle.share_ledger.specs.Values.{KeeperValue, TicketValue, TicketAgrees, IsWaiting}
-use Rattle.realm_core.specs.Cores.{Tied}
-use Rattle.realm_core.specs.Tasks.{IsRunning}
+use Rattle.std.proofs.Common.{[], ℕ, ◌&&◌, ◌++◌, ◌||◌, ◌∙◌, ◌∷◌, ◌≡◌, Bool, List, None, Option, Some, ap, arith, cond, false, is_some, not, refl, sym, true}
+use Rattle.scope_rules.specs.declared.types.answers.Stage.TheVariants.{Never}
+use Rattle.realm_core.specs.{EndValue, Finished, Forking, Grant, Happened, History, IsRunning, IsWaiting, KeeperValue, Realm, RealmStep, Start, TableId, TicketAgrees, TicketValue, Tied, Words.Waiting, cancelled_before, end_in}
+use Rattle.realm_core.specs.{end_shown, ending, finished, forking, grant_in, history_of, is_event, list_any, option_or, rejected, rejected_in, rejects, stage, started, started_in}
+use Rattle.realm_core.proofs.Words.{end_in-append, forked_after, given_ticket_waits, grant-append, list_any-append, no_ending, or-false, seen_tells, stage_is, staged, tells_history, waiting_forked}
 
 never_or_finished : (b : Bool) → cond b Never Finished ≡ Waiting → ⊥
 never_or_finished true is = cc

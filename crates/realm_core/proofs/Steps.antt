@@ -1,17 +1,7 @@
 -- One step of a realm and its keeper, and what a holder that agrees with the keeper's list knows of it.
-use Rattle.std.proofs.Common.{◌≡◌, List, [], ◌∷◌, ◌++◌, refl, sym, ap, ◌∙◌, subst}
-use Rattle.scope_rules.specs.declared.types.capacity.Limits.{Limits}
-use Rattle.scope_rules.specs.History.{History}
-use Rattle.scope_rules.specs.Origin.{the_start}
-use Rattle.scope_rules.specs.Replies.{Realm, starting}
-use Rattle.share_ledger.specs.declared.steps.RealmStep.{RealmStep}
-use Rattle.share_ledger.specs.declared.steps.Holder.{Holder}
-use Rattle.share_ledger.specs.Holders.{Looks, Adds}
-use Rattle.share_ledger.specs.Steps.{advance, history_of, Passes, IsLegal}
-use Rattle.share_ledger.proofs.Histories.{goes_on}
-use Rattle.atomic_table.specs.Seated.{TableId}
-use Rattle.share_ledger.specs.Values.{KeeperValue, AgreesWith}
-use Rattle.realm_core.specs.Cores.{Tied}
+use Rattle.std.proofs.Common.{[], ◌++◌, ◌∙◌, ◌∷◌, ◌≡◌, List, ap, refl, subst, sym}
+use Rattle.realm_core.specs.{Adds, AgreesWith, History, Holder, IsLegal, KeeperValue, Limits, Looks, Passes, Realm, RealmStep, TableId, Tied, advance, history_of, starting, the_start}
+use Rattle.realm_core.proofs.Words.{goes_on}
 
 -- the realm with one step more
 abbrev pub stepped : Realm → RealmStep → Realm

@@ -1,40 +1,10 @@
 -- What a ticket's task is on the realm's history, and what the calls with it come to.
-use Rattle.std.proofs.Common.{◌≡◌, ℕ, true, false, Bool, Some, Result, Ok, Err, is_ok, is_some, [], ◌∷◌, ◌++◌, refl, sym, ap, ◌∙◌, subst, arith}
-use Rattle.std.specs.Prelude.{if◌then◌else◌}
-use Rattle.scope_rules.specs.declared.types.capacity.Limits.{Limits}
-use Rattle.scope_rules.specs.declared.types.events.Event.{Event}
-use Rattle.scope_rules.specs.declared.types.events.Event.TheVariants.{Reject, Start, Finish}
-use Rattle.scope_rules.specs.declared.types.answers.Stage.TheVariants.{Waiting, Running}
-use Rattle.scope_rules.specs.declared.types.records.Forking.{Forking}
-use Rattle.scope_rules.specs.declared.types.refusals.Refusal.{Refusal}
-use Rattle.scope_rules.specs.declared.types.refusals.Refusal.TheVariants.{Structure}
-use Rattle.scope_rules.specs.Ends.{LabelValue, EndValue}
-use Rattle.scope_rules.specs.History.{History}
-use Rattle.scope_rules.specs.Scopes.{innermost}
-use Rattle.scope_rules.specs.Cancels.{cancelled_before}
-use Rattle.scope_rules.specs.Tasks.{stage}
-use Rattle.scope_rules.specs.Checks.{checks, then_check, refuse_if}
-use Rattle.scope_rules.specs.Table.{check_of, row_check}
-use Rattle.scope_rules.specs.Legal.{Accepts}
-use Rattle.scope_rules.specs.Replies.{Realm, Answers}
-use Rattle.scope_rules.proofs.Forkings.{forked_after}
-use Rattle.scope_rules.proofs.Stages.{waiting_forked, running_forked}
-use Rattle.scope_checks.proofs.Checked.{task_passes}
-use Rattle.share_ledger.specs.declared.steps.RealmStep.TheVariants.{Happened}
-use Rattle.share_ledger.specs.declared.steps.Holder.TheVariants.{TicketOf}
-use Rattle.share_ledger.specs.Steps.{history_of}
-use Rattle.share_ledger.specs.Tickets.{Grant, grant_in}
-use Rattle.share_ledger.specs.StepLaws.{grant_shown}
-use Rattle.share_ledger.proofs.Waits.{given_ticket_waits, started_ticket_runs}
-use Rattle.share_ledger.proofs.Told.{seen_tells}
-use Rattle.share_ledger.proofs.Ends.{tells_history}
-use Rattle.atomic_table.specs.Seated.{TableId}
-use Rattle.share_ledger.specs.Values.{KeeperValue, TicketValue, TicketAgrees, IsWaiting}
-use Rattle.realm_state.specs.Fits.{FitsTask}
-use Rattle.realm_core.specs.Cores.{Tied}
-use Rattle.realm_core.specs.Calls.{TicketAdded}
-use Rattle.realm_core.specs.Tasks.{IsRunning}
-use Rattle.realm_core.proofs.Steps.{stepped, tied_next, adds_now}
+use Rattle.std.proofs.Common.{[], ℕ, ◌++◌, ◌∙◌, ◌∷◌, ◌≡◌, Bool, Err, Ok, Result, Some, ap, arith, false, if◌then◌else◌, is_ok, is_some, refl, subst, sym, true}
+use Rattle.realm_core.specs.{Accepts, Answers, EndValue, Event, Finish, FitsTask, Forking, Grant, Happened, History, IsRunning, IsWaiting, KeeperValue, LabelValue, Limits, Realm, Refusal, Reject, Running, Start, Structure}
+use Rattle.realm_core.specs.{TableId, TicketAdded, TicketAgrees, TicketOf, TicketValue, Tied, Words.Waiting, cancelled_before, check_of, checks, grant_in, grant_shown, history_of, innermost, refuse_if, row_check, stage}
+use Rattle.realm_core.specs.{then_check}
+use Rattle.realm_core.proofs.Words.{forked_after, given_ticket_waits, running_forked, seen_tells, started_ticket_runs, task_passes, tells_history, waiting_forked}
+use Rattle.realm_core.proofs.Steps.{adds_now, stepped, tied_next}
 
 -- a task that waits may be started, and rejected
 pub may_start : (L : Limits) (h : History) (k : ℕ) → stage h k ≡ Waiting → check_of L h (Start k) ≡ Ok tt

@@ -1,19 +1,8 @@
 -- What the command of an event did, in the words of the calls by name.
-use Rattle.std.proofs.Common.{◌≡◌, ℕ, false, Ok, Err, Result, refl}
-use Rattle.scope_rules.specs.declared.types.events.Event.{Event}
-use Rattle.scope_rules.specs.declared.types.events.Event.TheVariants.{Open}
-use Rattle.scope_rules.specs.declared.types.events.Options.{Options}
-use Rattle.scope_rules.specs.declared.types.joiners.Policy.{Policy}
-use Rattle.scope_rules.specs.declared.types.refusals.Refusal.{Refusal}
-use Rattle.scope_rules.specs.Replies.{next_scope, recorded}
-use Rattle.share_ledger.specs.declared.steps.RealmStep.TheVariants.{Happened}
-use Rattle.share_ledger.specs.Steps.{history_of}
-use Rattle.scope_checks.specs.declared.event_replies.EventReply.{EventReply}
-use Rattle.scope_checks.specs.declared.event_replies.EventReply.TheVariants as told
-use Rattle.scope_checks.specs.EventReplies.{wants_memory, records}
-use Rattle.share_ledger.specs.Values.{OwnerValue}
-use Rattle.realm_core.specs.Calls.{history_seen, Accepted, DidRecord, DidPerform, noted}
+use Rattle.std.proofs.Common.{ℕ, ◌≡◌, Err, Ok, Result, false, refl}
+use Rattle.realm_core.specs.{Accepted, Calls.noted, DidPerform, DidRecord, Event, EventReply, Happened, Open, Options, OwnerValue, Policy, Refusal, history_of, history_seen, next_scope, recorded, records, wants_memory}
 use Rattle.realm_core.proofs.Performed.{refused_surely}
+use Rattle.scope_checks.specs.declared.event_replies.EventReply.TheVariants as told
 
 -- of the beginning of a close
 pub records_surely : (old new : OwnerValue) (e : Event) (result : Result EventReply Refusal) → wants_memory (history_seen new) e ≡ false → DidPerform old new e result → DidRecord old new e (noted result)

@@ -1,33 +1,11 @@
 -- An actor's innermost scope is moved by nobody else; so the end of a task that has none is not refused.
-use Rattle.std.proofs.Common.{◌≡◌, ◌≢◌, ℕ, ◌==◌, false, Option, Some, None, Ok, List, [], refl, sym, ◌∙◌, arith}
-use Rattle.std.proofs.lemmas.Bool.{both_ways, eq-eqb}
-use Rattle.scope_rules.specs.declared.types.capacity.Limits.{Limits}
-use Rattle.scope_rules.specs.declared.types.events.Event.{Event}
-use Rattle.scope_rules.specs.declared.types.events.Event.TheVariants.{Open, EndClose, Finish}
-use Rattle.scope_rules.specs.declared.types.answers.Stage.TheVariants.{Running}
-use Rattle.scope_rules.specs.Ends.{EndValue}
-use Rattle.scope_rules.specs.Origin.{Origin}
-use Rattle.scope_rules.specs.Replies.{base_of}
-use Rattle.scope_rules.specs.History.{History, followed}
-use Rattle.scope_rules.specs.Scopes.{closed, innermost}
-use Rattle.scope_rules.specs.Tasks.{stage}
-use Rattle.scope_rules.specs.Checks.{checks, then_check}
-use Rattle.scope_rules.specs.Table.{check_of, row_check}
-use Rattle.scope_rules.specs.Legal.{Accepts, Legal}
-use Rattle.scope_rules.proofs.ClosingScopes.{nothing_open}
-use Rattle.scope_rules.proofs.Innermosts.{opened_after, innermost_unclosed, innermost_is_none}
-use Rattle.scope_rules.proofs.InnermostSteps.{innermost_same, innermost_open_other, innermost_end_other}
-use Rattle.scope_rules.proofs.Stages.{running_forked}
-use Rattle.scope_checks.proofs.Checked.{task_passes}
-use Rattle.share_ledger.specs.declared.steps.RealmStep.{RealmStep}
-use Rattle.share_ledger.specs.declared.steps.RealmStep.TheVariants.{Happened, Asked, Retirement}
-use Rattle.share_ledger.specs.declared.steps.Ask.{Ask}
-use Rattle.share_ledger.specs.declared.steps.Ask.TheVariants as ask
-use Rattle.share_ledger.specs.declared.steps.Holder.TheVariants.{TokenOf}
-use Rattle.share_ledger.specs.Holders.{is_own, Agrees}
-use Rattle.share_ledger.specs.Steps.{advance, asked, history_of, Passes, IsLegal}
-use Rattle.share_ledger.proofs.Histories.{retired_without_scopes}
+use Rattle.std.proofs.Common.{[], ℕ, ◌==◌, ◌∙◌, ◌≡◌, ◌≢◌, List, None, Ok, Option, Some, arith, false, refl, sym}
+use Rattle.realm_core.specs.{Accepts, Agrees, Ask, Asked, EndClose, EndValue, Event, Finish, Happened, History, IsLegal, Legal, Limits, Open, Origin, Passes, RealmStep, Retirement, Running, TokenOf, advance, asked, base_of}
+use Rattle.realm_core.specs.{check_of, checks, closed, followed, history_of, innermost, is_own, row_check, stage, then_check}
+use Rattle.realm_core.proofs.Words.{both_ways, eq-eqb, innermost_end_other, innermost_is_none, innermost_open_other, innermost_same, innermost_unclosed, nothing_open, opened_after, retired_without_scopes, running_forked}
+use Rattle.realm_core.proofs.Words.{task_passes}
 use Rattle.realm_core.proofs.Others.{still}
+use Rattle.share_ledger.specs.declared.steps.Ask.TheVariants as ask
 
 another : (b a : ℕ) → (b == a) ≡ false → b ≢ a
 another b a other same = both_ways (b == a) other (eq-eqb b a same)

@@ -1,20 +1,9 @@
 -- A walk from a scope inwards, over the scopes that its owner has not closed: it meets all of them, in the
 -- order that is the reverse of that in which they can be closed.
-use Rattle.std.proofs.Common.{◌≡◌, ◌≢◌, ℕ, zero, suc, ◌+◌, ◌-◌, ◌<◌, ◌≤◌, ◌==◌, ◌&&◌, Bool, true, false, not, cond, nat_lt, Option, Some, None, List, [], ◌∷◌, refl, ap, sym, subst, ◌∙◌, arith, inl, inr, ◌⊎◌}
-use Rattle.std.proofs.lemmas.Bool.{both_ways, cases_lt, eqb-true, eq-eqb, ne_eqb, ltb-true, and_parts, not-true, or_from}
-use Rattle.std.proofs.lemmas.Option.{same_Some}
-use Rattle.std.specs.Option.{option_and_then}
-use Rattle.scope_rules.specs.declared.types.events.Event.TheVariants.{EndClose}
-use Rattle.scope_rules.specs.declared.types.records.Opening.{Opening}
-use Rattle.scope_rules.specs.History.{History, opened_count, opening, followed, scopes}
-use Rattle.scope_rules.specs.Scopes.{closed, unclosed_of, innermost}
-use Rattle.scope_rules.specs.Nests.{unclosed_after, next_unclosed, inner}
-use Rattle.scope_rules.proofs.Earlier.{earliest_first, scope_given}
-use Rattle.scope_rules.proofs.Innermosts.{HasUnclosed, innermost_is}
-use Rattle.scope_rules.proofs.OneEventMore.{opening_same, closed_grows, unclosed_earlier}
-use Rattle.scope_rules.proofs.Openings.{and_then_some, if_some}
-use Rattle.scope_rows.proofs.FirstUnclosed.{next_is}
-use Rattle.realm_core.specs.Ends.{InEndOrder}
+use Rattle.std.proofs.Common.{[], ℕ, ◌&&◌, ◌+◌, ◌-◌, ◌<◌, ◌==◌, ◌∙◌, ◌∷◌, ◌≡◌, ◌≢◌, ◌≤◌, ◌⊎◌, Bool, List, None, Option, Some, ap, arith, cond, false, inl, inr, nat_lt, not, refl, subst, suc, sym, true, zero}
+use Rattle.realm_core.specs.{EndClose, History, InEndOrder, Opening, closed, followed, inner, innermost, next_unclosed, opened_count, opening, option_and_then, scopes, unclosed_after, unclosed_of}
+use Rattle.realm_core.proofs.Words.{HasUnclosed, and_parts, and_then_some, both_ways, cases_lt, closed_grows, earliest_first, eq-eqb, eqb-true, if_some, innermost_is, ltb-true, ne_eqb, next_is, not-true, opening_same, or_from}
+use Rattle.realm_core.proofs.Words.{same_Some, scope_given, unclosed_earlier}
 use Rattle.realm_core.proofs.EndChains.{closed_now}
 
 -- ---- what `inner` finds

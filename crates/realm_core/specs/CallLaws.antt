@@ -1,13 +1,6 @@
 -- How the words for what calls did are put together, if one call follows another.
-use Rattle.std.specs.Prelude.{◌≡◌, ℕ, ◌<◌, true, false, Some, List}
-use Rattle.scope_rules.specs.declared.types.records.Opening.{Opening}
-use Rattle.scope_rules.specs.History.{History, opening}
-use Rattle.scope_rules.specs.Scopes.{closed, closing}
-use Rattle.scope_rules.specs.Legal.{Legal}
-use Rattle.scope_rules.specs.declared.types.capacity.Limits.{Limits}
-use Rattle.share_ledger.specs.declared.steps.RealmStep.{RealmStep}
-use Rattle.share_ledger.specs.declared.steps.Holder.{Holder}
-use Rattle.share_ledger.specs.Holders.{Agrees, Looks, Adds}
+use Rattle.std.specs.Prelude.{ℕ, ◌<◌, ◌≡◌, List, Some, false, true}
+use Rattle.realm_core.specs.Words.{Adds, Agrees, History, Holder, Legal, Limits, Looks, Opening, RealmStep, closed, closing, opening}
 
 -- a holder agrees with what it has seen
 abbrev pub HoldersAgree : Type 0

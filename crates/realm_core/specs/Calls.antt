@@ -1,24 +1,9 @@
 -- What a call on a token did to what the token has seen, and what it answered: the public words of a
 -- realm's calls.
-use Rattle.std.specs.Prelude.{◌≡◌, ℕ, true, ◌⊎◌, Result, Ok, Err}
-use Rattle.scope_rules.specs.declared.types.capacity.Limits.{Limits}
-use Rattle.scope_rules.specs.declared.types.events.Event.{Event}
-use Rattle.scope_rules.specs.declared.types.refusals.Refusal.{Refusal}
-use Rattle.scope_rules.specs.declared.types.refusals.Refusal.TheVariants.{Memory}
-use Rattle.scope_rules.specs.declared.types.answers.Cancelling.{Cancelling}
-use Rattle.scope_rules.specs.declared.types.answers.Cancelling.TheVariants.{Recorded, Already}
-use Rattle.scope_rules.specs.History.{History}
-use Rattle.scope_rules.specs.Checks.{Checked}
-use Rattle.scope_rules.specs.Table.{check_of, is_already, retire_check}
-use Rattle.share_ledger.specs.declared.steps.RealmStep.{RealmStep}
-use Rattle.share_ledger.specs.declared.steps.RealmStep.TheVariants.{Happened, Asked, Retirement}
-use Rattle.share_ledger.specs.declared.steps.Holder.TheVariants.{TokenOf, TicketOf}
-use Rattle.share_ledger.specs.Steps.{asked, history_of, step_by}
-use Rattle.share_ledger.specs.Holders.{Adds, Looks}
-use Rattle.scope_checks.specs.declared.event_replies.EventReply.{EventReply}
+use Rattle.std.specs.Prelude.{ℕ, ◌≡◌, ◌⊎◌, Err, Ok, Result, true}
+use Rattle.realm_core.specs.Words.{Adds, Already, Asked, Cancelling, Checked, Event, EventReply, Happened, History, Limits, Looks, Memory, OwnerValue, RealmStep, Recorded, Refusal, Retirement, TicketOf, TicketValue, TokenOf}
+use Rattle.realm_core.specs.Words.{asked, check_of, event_reply_of, history_of, is_already, noting, retire_check, step_by, wants_memory}
 use Rattle.scope_checks.specs.declared.event_replies.EventReply.TheVariants as told
-use Rattle.scope_checks.specs.EventReplies.{event_reply_of, wants_memory, noting}
-use Rattle.share_ledger.specs.Values.{OwnerValue, TicketValue}
 
 -- what was seen with a token, as the history that it leaves
 abbrev pub history_seen : OwnerValue → History

@@ -1,29 +1,9 @@
 -- What the holds of a close did, by what the caller's token has seen then.
-use Rattle.std.specs.Prelude.{◌≡◌, ℕ, ◌⊎◌, true, Some, None, Option, Result, Ok, Err, List}
-use Rattle.std.specs.List.{All}
-use Rattle.std.specs.List.Sorted.{IsPermutation}
-use Rattle.scope_rules.specs.declared.types.capacity.Limits.{Limits}
-use Rattle.scope_rules.specs.declared.types.answers.Cancelling.{Cancelling}
-use Rattle.scope_rules.specs.declared.types.answers.Verdict.{Verdict}
-use Rattle.scope_rules.specs.declared.types.events.Event.TheVariants.{BeginClose}
-use Rattle.scope_rules.specs.declared.types.refusals.Refusal.{Refusal}
-use Rattle.scope_rules.specs.declared.types.refusals.Refusal.TheVariants.{Closed, Memory, NotReady}
-use Rattle.scope_rules.specs.History.{History}
-use Rattle.scope_rules.specs.Scopes.{closed, closing}
-use Rattle.scope_rules.specs.Verdicts.{verdict}
-use Rattle.share_ledger.specs.declared.steps.RealmStep.{RealmStep}
-use Rattle.share_ledger.specs.declared.steps.RealmStep.TheVariants.{Happened}
-use Rattle.share_ledger.specs.declared.steps.Holder.TheVariants.{TokenOf}
-use Rattle.share_ledger.specs.Holders.{Agrees}
-use Rattle.share_ledger.specs.Values.{OwnerValue, TicketValue}
-use Rattle.realm_core.specs.Cores.{CoreValue}
-use Rattle.realm_core.specs.Calls.{history_seen, SeesMore, HasLooked, Refused, FoundSo, DidRecord}
-use Rattle.realm_core.specs.Ends.{Ends}
-use Rattle.realm_core.specs.Reports.{numbers, IsReported, AreReported}
-use Rattle.realm_core.specs.Runs.{IsShown}
-use Rattle.realm_core.specs.Tickets.{AreTicketsOf}
-use Rattle.realm_core.specs.Waiting.{IsOpenOf, HoldsUp}
-use Rattle.realm_core.specs.declared.reports.CloseReport.{CloseReport}
+use Rattle.std.specs.Prelude.{ℕ, ◌≡◌, ◌⊎◌, Err, List, None, Ok, Option, Result, Some, true}
+use Rattle.realm_core.specs.Words.{Agrees, All, BeginClose, Cancelling, CloseReport, Closed, Happened, History, IsPermutation, Limits, Memory, NotReady, OwnerValue, RealmStep, Refusal, TicketValue, TokenOf, Verdict, closed}
+use Rattle.realm_core.specs.Words.{closing, verdict}
+use Rattle.realm_core.specs.{Calls.DidRecord, Calls.FoundSo, Calls.HasLooked, Calls.Refused, Calls.SeesMore, Calls.history_seen, Cores.CoreValue, Ends.Ends, Reports.AreReported, Reports.IsReported, Reports.numbers, Runs.IsShown}
+use Rattle.realm_core.specs.{Tickets.AreTicketsOf, Waiting.HoldsUp, Waiting.IsOpenOf}
 
 -- the actor opened scope s, and has begun to close it, and not closed it
 pub record IsBegun (h : History) (a s : ℕ) : Type 0 where

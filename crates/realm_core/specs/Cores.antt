@@ -1,11 +1,6 @@
 -- What lies under a realm's lock, and what always holds of it.
 use Rattle.std.specs.Prelude.{◌≡◌, List}
-use Rattle.scope_rules.specs.declared.types.capacity.Limits.{Limits}
-use Rattle.scope_rules.specs.Replies.{Realm}
-use Rattle.share_ledger.specs.declared.steps.RealmStep.{RealmStep}
-use Rattle.share_ledger.specs.Steps.{history_of, IsLegal}
-use Rattle.atomic_table.specs.Seated.{TableId}
-use Rattle.share_ledger.specs.Values.{KeeperValue}
+use Rattle.realm_core.specs.Words.{IsLegal, KeeperValue, Limits, Realm, RealmStep, TableId, history_of}
 
 -- what lies under the lock: the realm's limits, and the list of its steps since it began
 pub record CoreValue : Type 0 where

@@ -1,12 +1,6 @@
 -- When the close of a scope can end.
-use Rattle.std.specs.Prelude.{◌≡◌, ◌≢◌, ℕ, ◌<◌, ◌≤◌, true, false, Some}
-use Rattle.scope_rules.specs.declared.types.capacity.Limits.{Limits}
-use Rattle.scope_rules.specs.declared.types.events.Event.TheVariants.{EndClose}
-use Rattle.scope_rules.specs.Legal.{Legal}
-use Rattle.scope_rules.specs.declared.types.records.Opening.{Opening}
-use Rattle.scope_rules.specs.History.{History, followed, opening}
-use Rattle.scope_rules.specs.Scopes.{closed, closing, innermost}
-use Rattle.scope_rules.specs.Tasks.{settled}
+use Rattle.std.specs.Prelude.{ℕ, ◌<◌, ◌≡◌, ◌≢◌, ◌≤◌, Some, false, true}
+use Rattle.realm_core.specs.Words.{EndClose, History, Legal, Limits, Opening, closed, closing, followed, innermost, opening, settled}
 
 -- scope s is the actor's innermost one, its close has begun, and none of its tasks waits or runs
 pub record CanEnd (h : History) (a s : ℕ) : Type 0 where

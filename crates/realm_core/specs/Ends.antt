@@ -1,12 +1,6 @@
 -- The ends of a close: the scopes inside a scope are closed first, the latest first, and then the scope.
-use Rattle.std.specs.Prelude.{◌≡◌, ◌≢◌, ℕ, ◌<◌, Some, List, [], ◌∷◌, ◌++◌, map}
-use Rattle.scope_rules.specs.declared.types.capacity.Limits.{Limits}
-use Rattle.scope_rules.specs.declared.types.events.Event.TheVariants.{EndClose}
-use Rattle.scope_rules.specs.History.{History, followed}
-use Rattle.scope_rules.specs.Scopes.{innermost}
-use Rattle.share_ledger.specs.declared.steps.RealmStep.{RealmStep}
-use Rattle.share_ledger.specs.declared.steps.RealmStep.TheVariants.{Happened}
-use Rattle.share_ledger.specs.Steps.{history_of, IsLegal}
+use Rattle.std.specs.Prelude.{[], ℕ, ◌++◌, ◌<◌, ◌∷◌, ◌≡◌, ◌≢◌, List, Some, map}
+use Rattle.realm_core.specs.Words.{EndClose, Happened, History, IsLegal, Limits, RealmStep, followed, history_of, innermost}
 use Rattle.realm_core.specs.Endings.{CanClose}
 
 -- the actor's end of the close of scope t

@@ -1,11 +1,7 @@
 -- What the report of a close shows.
-use Rattle.std.specs.Prelude.{◌≡◌, ℕ, true, false, Some, option_map, List, [], ◌∷◌, ◌++◌, map}
-use Rattle.scope_rules.specs.declared.types.answers.Verdict.{Verdict}
-use Rattle.scope_rules.specs.History.{History}
-use Rattle.scope_rules.specs.Scopes.{closed, closing}
-use Rattle.scope_rules.specs.Verdicts.{verdict}
+use Rattle.std.specs.Prelude.{[], ℕ, ◌++◌, ◌∷◌, ◌≡◌, List, Some, false, map, option_map, true}
+use Rattle.realm_core.specs.Words.{History, LogValue, Verdict, closed, closing, log, verdict}
 use Rattle.scope_log.specs.declared.entries.LogEntry.TheVariants as entry
-use Rattle.scope_log.specs.Log.{LogValue, log}
 
 -- what is shown of one scope: its number, how it was closed, and its log
 abbrev pub Shown : Type 0

@@ -1,19 +1,7 @@
 -- What the log of a scope shows of a task that got a thread.
-use Rattle.std.specs.Prelude.{◌≡◌, ℕ, ◌||◌, Bool, true, Some, [], ◌∷◌}
-use Rattle.std.specs.List.{filter}
-use Rattle.scope_rules.specs.declared.types.capacity.Limits.{Limits}
-use Rattle.scope_rules.specs.declared.types.records.Ending.{Ending}
-use Rattle.scope_rules.specs.Ends.{EndValue}
-use Rattle.scope_rules.specs.History.{History}
-use Rattle.scope_rules.specs.Completions.{is_task_of}
-use Rattle.scope_rules.specs.Tasks.{ending}
-use Rattle.scope_rules.specs.Legal.{Legal}
-use Rattle.scope_log.specs.declared.entries.LogEntry.{LogEntry}
+use Rattle.std.specs.Prelude.{[], ℕ, ◌||◌, ◌∷◌, ◌≡◌, Bool, Some, true}
+use Rattle.realm_core.specs.Words.{EndValue, Ending, History, Legal, Limits, LogEntry, LogValue, TicketValue, end_in, ending, filter, finishes_task, is_task_of, log, starts_task}
 use Rattle.scope_log.specs.declared.entries.LogEntry.TheVariants as entry
-use Rattle.scope_log.specs.LocalForms.{starts_task, finishes_task}
-use Rattle.scope_log.specs.Log.{LogValue, log}
-use Rattle.share_ledger.specs.Tickets.{end_in}
-use Rattle.share_ledger.specs.Values.{TicketValue}
 
 -- the entry is the start of task k, or its finish
 abbrev pub runs_task : ℕ → LogEntry → Bool

@@ -1,18 +1,8 @@
 -- What a fork gives, and what the calls with a ticket do.
-use Rattle.std.specs.Prelude.{◌≡◌, ℕ, true, false, None, Some, Result, Ok, Err}
-use Rattle.scope_rules.specs.declared.types.answers.ForkReply.{ForkReply}
+use Rattle.std.specs.Prelude.{ℕ, ◌≡◌, Err, None, Ok, Result, Some, false, true}
+use Rattle.realm_core.specs.Words.{EndValue, Finish, ForkReply, Forked, Happened, IsWaiting, LabelValue, OwnerValue, Refusal, Structure, TableId, TicketValue, end_in, finished_in, given_in, started_in}
+use Rattle.realm_core.specs.{Calls.Added, Calls.Refused, Calls.TicketAdded, Calls.TicketLooked, declared.forking.Forked.TheVariants.Never, declared.forking.Forked.TheVariants.Thread}
 use Rattle.scope_rules.specs.declared.types.answers.ForkReply.TheVariants as reply
-use Rattle.scope_rules.specs.declared.types.events.Event.TheVariants.{Finish}
-use Rattle.scope_rules.specs.declared.types.refusals.Refusal.{Refusal}
-use Rattle.scope_rules.specs.declared.types.refusals.Refusal.TheVariants.{Structure}
-use Rattle.scope_rules.specs.Ends.{LabelValue, EndValue}
-use Rattle.share_ledger.specs.declared.steps.RealmStep.TheVariants.{Happened}
-use Rattle.share_ledger.specs.Tickets.{given_in, started_in, end_in, finished_in}
-use Rattle.atomic_table.specs.Seated.{TableId}
-use Rattle.share_ledger.specs.Values.{OwnerValue, TicketValue, IsWaiting}
-use Rattle.realm_core.specs.declared.forking.Forked.{Forked}
-use Rattle.realm_core.specs.declared.forking.Forked.TheVariants.{Thread, Never}
-use Rattle.realm_core.specs.Calls.{TicketLooked, TicketAdded, Added, Refused}
 
 -- the task's number, and whether it gets a thread
 abbrev pub reply_of : Forked → ForkReply

@@ -1,9 +1,7 @@
 -- What the keeper of a realm's list is told of a call, and what that leaves under the lock.
-use Rattle.std.specs.Prelude.{◌≡◌, Bool, [], ◌∷◌, ◌++◌, if◌then◌else◌}
-use Rattle.share_ledger.specs.declared.steps.RealmStep.{RealmStep}
-use Rattle.share_ledger.specs.Values.{KeeperValue, OwnerValue, TicketValue}
-use Rattle.realm_core.specs.Cores.{CoreValue}
-use Rattle.realm_core.specs.Calls.{SeesMore}
+use Rattle.std.specs.Prelude.{[], ◌++◌, ◌∷◌, ◌≡◌, Bool, if◌then◌else◌}
+use Rattle.realm_core.specs.Words.{KeeperValue, OwnerValue, RealmStep, TicketValue}
+use Rattle.realm_core.specs.{Calls.SeesMore, Cores.CoreValue}
 
 -- the keeper's list with the step, or as it was
 abbrev pub told : KeeperValue → RealmStep → Bool → KeeperValue

@@ -1,16 +1,6 @@
 -- Which tickets a close with a report is handed.
-use Rattle.std.specs.Prelude.{◌≡◌, ℕ, ◌⊎◌, ◌+◌, ◌==◌, ◌≤◌, ◌&&◌, Bool, true, false, not, Option, Some, None, List, length, take, slice_get, count_by}
-use Rattle.std.specs.List.{All}
-use Rattle.std.specs.Option.{option_map_or}
-use Rattle.scope_rules.specs.History.{History, forking}
-use Rattle.scope_rules.specs.Scopes.{covers}
-use Rattle.scope_rules.specs.Completions.{is_task_of}
-use Rattle.scope_rules.specs.Tasks.{stage, is_never}
-use Rattle.share_ledger.specs.declared.steps.RealmStep.{RealmStep}
-use Rattle.share_ledger.specs.declared.steps.Holder.TheVariants.{TicketOf}
-use Rattle.share_ledger.specs.Holders.{Agrees}
-use Rattle.share_ledger.specs.Tickets.{grant_in, finished_in}
-use Rattle.share_ledger.specs.Values.{TicketValue, one_if}
+use Rattle.std.specs.Prelude.{ℕ, ◌&&◌, ◌+◌, ◌==◌, ◌≡◌, ◌≤◌, ◌⊎◌, Bool, List, None, Option, Some, count_by, false, length, not, slice_get, take, true}
+use Rattle.realm_core.specs.Words.{Agrees, All, History, RealmStep, TicketOf, TicketValue, covers, finished_in, forking, grant_in, is_never, is_task_of, one_if, option_map_or, stage}
 
 -- task k was given a thread
 abbrev pub got_thread : History → ℕ → Bool

@@ -1,22 +1,7 @@
 -- What views and joins show.
-use Rattle.std.specs.Prelude.{◌≡◌, ℕ, ◌⊎◌, Some, option_map, Result, Ok, Err}
-use Rattle.scope_rules.specs.declared.types.answers.Cause.{Cause}
-use Rattle.scope_rules.specs.declared.types.events.Event.TheVariants.{Join}
-use Rattle.scope_rules.specs.declared.types.refusals.Refusal.{Refusal}
-use Rattle.scope_rules.specs.declared.types.refusals.Refusal.TheVariants.{Memory, Unavailable}
-use Rattle.scope_rules.specs.History.{History, moment}
-use Rattle.scope_rules.specs.Cancels.{cause, cancelled_at}
-use Rattle.scope_rules.specs.Tasks.{counts}
-use Rattle.scope_rules.specs.Outcomes.{outcome}
-use Rattle.scope_rules.specs.Checks.{scope_check}
-use Rattle.scope_log.specs.Log.{log}
-use Rattle.scope_index.specs.declared.bare.BareOutcome.{BareOutcome}
-use Rattle.scope_index.specs.Bare.{bare_of}
-use Rattle.share_ledger.specs.declared.steps.RealmStep.TheVariants.{Happened}
-use Rattle.share_ledger.specs.Values.{OwnerValue}
-use Rattle.realm_core.specs.declared.views.View.{View}
-use Rattle.realm_core.specs.declared.joins.Joined.{Joined}
-use Rattle.realm_core.specs.Calls.{SeesMore, history_seen, Added, Refused, OutOfMemory}
+use Rattle.std.specs.Prelude.{ℕ, ◌≡◌, ◌⊎◌, Err, Ok, Result, Some, option_map}
+use Rattle.realm_core.specs.Words.{BareOutcome, Cause, Happened, History, Join, Joined, Memory, OwnerValue, Refusal, Unavailable, View, bare_of, cancelled_at, cause, counts, log, moment, outcome, scope_check}
+use Rattle.realm_core.specs.Calls.{Added, OutOfMemory, Refused, SeesMore, history_seen}
 
 -- the view is of scope s after h
 pub record IsViewOf (h : History) (s : ℕ) (view : View) : Type 0 where

@@ -1,9 +1,6 @@
 -- Which scopes a close waits for.
-use Rattle.std.specs.Prelude.{◌≡◌, ℕ, ◌≤◌, true, false, Option, None, Some}
-use Rattle.scope_rules.specs.declared.types.records.Opening.{Opening}
-use Rattle.scope_rules.specs.History.{History, opening}
-use Rattle.scope_rules.specs.Scopes.{closed}
-use Rattle.scope_rules.specs.Tasks.{settled}
+use Rattle.std.specs.Prelude.{ℕ, ◌≡◌, ◌≤◌, None, Option, Some, false, true}
+use Rattle.realm_core.specs.Words.{History, Opening, closed, opening, settled}
 
 -- the actor opened scope s, and has not closed it
 pub record IsOpenOf (h : History) (a s : ℕ) : Type 0 where

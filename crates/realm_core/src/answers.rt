@@ -1,7 +1,7 @@
 //! What was told of a command, in the form of the call that asked for it.
 
 ghost use Rattle.std.specs.Prelude.{◌≡◌};
-ghost use Rattle.realm_core.specs.Calls.{done, noted};
+ghost use Rattle.realm_core.specs.{Calls.noted, done};
 
 use scope_checks::EventReply;
 use scope_rules::{Cancelling, Refusal};

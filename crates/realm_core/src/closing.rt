@@ -1,9 +1,5 @@
-ghost use Rattle.std.specs.Prelude.{◌≡◌, is_ok, IsOk};
-ghost use Rattle.scope_rules.specs.Verdicts.{verdict};
-ghost use Rattle.share_ledger.specs.Steps.{history_of};
-ghost use Rattle.realm_core.specs.Calls.{Does};
-ghost use Rattle.realm_core.specs.Endings.{CanEnd};
-ghost use Rattle.realm_core.specs.Telling.{Stepped};
+ghost use Rattle.std.specs.Prelude.{◌≡◌, IsOk, is_ok};
+ghost use Rattle.realm_core.specs.{CanEnd, Does, Stepped, history_of, verdict};
 
 use crate::RealmName;
 use crate::state::RealmCore;

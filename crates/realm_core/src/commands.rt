@@ -1,10 +1,5 @@
-ghost use Rattle.std.specs.Prelude.{◌≡◌, true, [], IfOk, is_ok};
-ghost use Rattle.scope_rules.specs.Replies.{base_of, recorded};
-ghost use Rattle.scope_checks.specs.EventReplies.{records};
-ghost use Rattle.share_ledger.specs.Steps.{step_by};
-ghost use Rattle.share_ledger.specs.Values.{is_recorded_by};
-ghost use Rattle.realm_core.specs.Calls.{DoesOrMemory, Performed, Records, history_seen};
-ghost use Rattle.realm_core.specs.Telling.{Stepped};
+ghost use Rattle.std.specs.Prelude.{[], ◌≡◌, IfOk, is_ok, true};
+ghost use Rattle.realm_core.specs.{DoesOrMemory, Performed, Records, Stepped, base_of, history_seen, is_recorded_by, recorded, records, step_by};
 
 use crate::RealmName;
 use crate::answers::reply_noted;

@@ -1,9 +1,5 @@
-ghost use Rattle.std.specs.Prelude.{◌≡◌, ℕ, List};
-ghost use Rattle.scope_rules.specs.Verdicts.{verdict};
-ghost use Rattle.share_ledger.specs.Steps.{history_of};
-ghost use Rattle.realm_core.specs.Endings.{CanClose};
-ghost use Rattle.realm_core.specs.Telling.{SeesAll};
-ghost use Rattle.realm_core.specs.Ends.{Ends, EndsInnermost};
+ghost use Rattle.std.specs.Prelude.{ℕ, ◌≡◌, List};
+ghost use Rattle.realm_core.specs.{CanClose, Ends.Ends, EndsInnermost, SeesAll, history_of, verdict};
 
 use crate::{RealmCore, RealmName};
 use scope_checks::Readings;

@@ -1,9 +1,5 @@
 ghost use Rattle.std.specs.Prelude.{◌≡◌, false};
-ghost use Rattle.scope_rules.specs.History.{History};
-ghost use Rattle.scope_rules.specs.Load.{weight};
-ghost use Rattle.scope_rules.specs.Table.{is_already};
-ghost use Rattle.scope_checks.specs.Entering.{Enters};
-ghost use Rattle.realm_state.specs.Fits.{FitsEvent};
+ghost use Rattle.realm_core.specs.{Enters, FitsEvent, History, is_already, weight};
 
 use realm_state::FittingRealm;
 use scope_rules::{Catalog, Event, Refusal};

@@ -1,8 +1,5 @@
 ghost use Rattle.std.specs.Prelude.{◌≡◌, is_ok};
-ghost use Rattle.scope_rules.specs.Replies.{fork_reply};
-ghost use Rattle.realm_core.specs.Calls.{DoesOrMemory};
-ghost use Rattle.realm_core.specs.Telling.{Stepped};
-ghost use Rattle.realm_core.specs.Tasks.{ticket_aside, GivesTicket};
+ghost use Rattle.realm_core.specs.{DoesOrMemory, GivesTicket, Stepped, fork_reply, ticket_aside};
 
 use crate::RealmName;
 use crate::state::RealmCore;

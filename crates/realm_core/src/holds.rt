@@ -1,12 +1,5 @@
-ghost use Rattle.std.specs.Prelude.{◌≡◌, IsOk, IfOk, MatchResult, Some};
-ghost use Rattle.scope_rules.specs.Replies.{recorded};
-ghost use Rattle.std.specs.List.{All};
-ghost use Rattle.share_ledger.specs.Steps.{history_of};
-ghost use Rattle.share_ledger.specs.Values.{TicketValue};
-ghost use Rattle.realm_core.specs.Endings.{CanClose};
-ghost use Rattle.realm_core.specs.Telling.{SeesAll, Stepped};
-ghost use Rattle.realm_core.specs.Waiting.{IsOpenOf};
-ghost use Rattle.realm_core.specs.Closes.{IsBegun, Begins, MayEnd, IsDone, IsLeft, MayReport, EndedThere, ReportedThere};
+ghost use Rattle.std.specs.Prelude.{◌≡◌, IfOk, IsOk, MatchResult, Some};
+ghost use Rattle.realm_core.specs.{All, Begins, CanClose, EndedThere, IsBegun, IsDone, IsLeft, IsOpenOf, MayEnd, MayReport, ReportedThere, SeesAll, Stepped, TicketValue, history_of, recorded};
 
 use crate::ending::end_all;
 use crate::reports::{CloseReport, close_with_report};

@@ -1,6 +1,5 @@
 ghost use Rattle.std.specs.Prelude.{◌≡◌, is_ok};
-ghost use Rattle.realm_core.specs.Telling.{Stepped};
-ghost use Rattle.realm_core.specs.Views.{Joins, JoinsBare};
+ghost use Rattle.realm_core.specs.{Joins, JoinsBare, Stepped};
 
 use crate::RealmName;
 use crate::events::done;

@@ -1,8 +1,7 @@
 //! How what calls did is put together, if one follows another, as by a call that waits. Each function
 //! does nothing: its contract is the law.
 
-ghost use Rattle.realm_core.specs.CallLaws.{HoldersAgree, AgreementsGoOn, LooksGoOn, AddsGoOn, LaterScopesClose};
-ghost use Rattle.realm_core.specs.Endings.{ClosesGoOn};
+ghost use Rattle.realm_core.specs.{AddsGoOn, AgreementsGoOn, ClosesGoOn, HoldersAgree, LaterScopesClose, LooksGoOn};
 
 /// A holder agrees with what it has seen.
 pub fn holders_agree()

@@ -1,6 +1,5 @@
 ghost use Rattle.std.specs.Prelude.{◌≡◌};
-ghost use Rattle.realm_core.specs.Calls.{Looked, TicketLooked};
-ghost use Rattle.realm_core.specs.Telling.{Shown};
+ghost use Rattle.realm_core.specs.{Looked, Telling.Shown, TicketLooked};
 
 use crate::RealmName;
 use crate::state::RealmCore;

@@ -1,12 +1,5 @@
-ghost use Rattle.std.specs.Prelude.{◌≡◌, ◌+◌, ◌<◌, ◌^◌, ◌++◌, ◌∷◌, [], true, false, Some, option_map, length, IfOk, MatchResult};
-ghost use Rattle.scope_rules.specs.declared.types.refusals.Refusal.TheVariants.{Memory};
-ghost use Rattle.scope_rules.specs.Scopes.{closed, closing};
-ghost use Rattle.scope_log.specs.Log.{log};
-ghost use Rattle.share_ledger.specs.Steps.{history_of};
-ghost use Rattle.realm_core.specs.Endings.{CanClose};
-ghost use Rattle.realm_core.specs.Telling.{SeesAll};
-ghost use Rattle.realm_core.specs.Ends.{InEndOrder, Ends};
-ghost use Rattle.realm_core.specs.Reports.{numbers, with_end, IsPrepared, ArePrepared, IsReported, AreReported};
+ghost use Rattle.std.specs.Prelude.{[], ◌++◌, ◌+◌, ◌<◌, ◌^◌, ◌∷◌, ◌≡◌, IfOk, MatchResult, Some, false, length, option_map, true};
+ghost use Rattle.realm_core.specs.{ArePrepared, AreReported, CanClose, Ends.Ends, InEndOrder, IsPrepared, IsReported, Memory, SeesAll, closed, closing, history_of, log, numbers, with_end};
 
 use crate::ending::end_all;
 use crate::{RealmCore, RealmName};

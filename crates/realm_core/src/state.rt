@@ -1,7 +1,5 @@
-ghost use Rattle.std.specs.Prelude.{◌≡◌, ℕ, [], List, slice_get};
-ghost use Rattle.scope_index.specs.CancelsOf.{IsCancelOrderOf};
-ghost use Rattle.share_ledger.specs.Steps.{history_of, IsLegal};
-ghost use Rattle.realm_state.specs.Fits.{Fitting};
+ghost use Rattle.std.specs.Prelude.{[], ℕ, ◌≡◌, List, slice_get};
+ghost use Rattle.realm_core.specs.{Fitting, IsCancelOrderOf, IsLegal, history_of};
 
 use crate::RealmName;
 use realm_state::{FittingRealm, RealmState};

@@ -1,10 +1,5 @@
-ghost use Rattle.std.specs.Prelude.{◌≡◌, true, false, None, IsOk, is_ok};
-ghost use Rattle.scope_rules.specs.Scopes.{innermost};
-ghost use Rattle.share_ledger.specs.Tickets.{given_in};
-ghost use Rattle.share_ledger.specs.Values.{IsWaiting};
-ghost use Rattle.realm_core.specs.Calls.{TicketAdded, history_seen};
-ghost use Rattle.realm_core.specs.Telling.{TicketStepped};
-ghost use Rattle.realm_core.specs.Tasks.{IsRunning, MayFinish, Finishes};
+ghost use Rattle.std.specs.Prelude.{◌≡◌, IsOk, None, false, is_ok, true};
+ghost use Rattle.realm_core.specs.{Finishes, IsRunning, IsWaiting, MayFinish, TicketAdded, TicketStepped, given_in, history_seen, innermost};
 
 use crate::RealmName;
 use crate::events::done;

@@ -1,7 +1,5 @@
 ghost use Rattle.std.specs.Prelude.{◌≡◌, true};
-ghost use Rattle.share_ledger.specs.Values.{OwnerAgrees, is_recorded_by};
-ghost use Rattle.share_ledger.specs.Steps.{step_by};
-ghost use Rattle.realm_core.specs.Telling.{told};
+ghost use Rattle.realm_core.specs.{OwnerAgrees, is_recorded_by, step_by, told};
 
 use scope_rules::Event;
 use share_ledger::{Keeper, OwnerShare, RealmStep};

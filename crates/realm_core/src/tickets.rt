@@ -1,10 +1,5 @@
-ghost use Rattle.std.specs.Prelude.{◌≡◌, ◌≤◌, [], true, false, IsSome, length, take};
-ghost use Rattle.std.specs.List.{All};
-ghost use Rattle.std.specs.List.Sorted.{IsPermutation};
-ghost use Rattle.scope_rules.specs.History.{opening};
-ghost use Rattle.scope_rules.specs.Scopes.{closed};
-ghost use Rattle.share_ledger.specs.Values.{TicketValue};
-ghost use Rattle.realm_core.specs.Tickets.{AreTicketsOf, BearsOut, is_ended_ticket_of, IsFoundFrom, IsBrought, MayPlaceOne, MayPlace};
+ghost use Rattle.std.specs.Prelude.{[], ◌≡◌, ◌≤◌, IsSome, false, length, take, true};
+ghost use Rattle.realm_core.specs.{All, AreTicketsOf, BearsOut, IsBrought, IsFoundFrom, IsPermutation, MayPlace, MayPlaceOne, TicketValue, closed, is_ended_ticket_of, opening};
 
 use crate::{RealmCore, RealmName};
 use realm_state::RealmState;

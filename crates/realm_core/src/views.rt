@@ -1,6 +1,5 @@
-ghost use Rattle.std.specs.Prelude.{◌≡◌, true, ◌↔◌, Ok, Err, IfOk, MatchResult};
-ghost use Rattle.scope_rules.specs.Checks.{scope_check};
-ghost use Rattle.realm_core.specs.Views.{ViewAnswers, MarkedViewAnswers, IsMarkOf};
+ghost use Rattle.std.specs.Prelude.{◌↔◌, ◌≡◌, Err, IfOk, MatchResult, Ok, true};
+ghost use Rattle.realm_core.specs.{IsMarkOf, MarkedViewAnswers, ViewAnswers, scope_check};
 
 use realm_state::RealmState;
 use scope_checks::{Readings, queries};

@@ -1,5 +1,5 @@
 ghost use Rattle.std.specs.Prelude.{◌≡◌};
-ghost use Rattle.realm_core.specs.Waiting.{FoundUnsettled};
+ghost use Rattle.realm_core.specs.{FoundUnsettled};
 
 use realm_state::RealmState;
 use scope_checks::Readings;

@@ -1,15 +1,7 @@
 -- How a scope was closed, by its row.
-use Rattle.std.proofs.Common.{◌≡◌, ℕ, ◌&&◌, not, cond, is_some, ap, ◌∙◌}
-use Rattle.scope_rules.specs.declared.types.answers.Verdict.TheVariants.{Plain, NotJoined, Violated}
-use Rattle.scope_rules.specs.History.{History}
-use Rattle.scope_rules.specs.Scopes.{joined}
-use Rattle.scope_rules.specs.Tasks.{has_tasks}
-use Rattle.scope_rules.specs.Verdicts.{verdict}
-use Rattle.scope_rules.proofs.Tallies.{tasks_by_counts}
-use Rattle.scope_rows.specs.declared.records.ScopeRow.{ScopeRow}
-use Rattle.scope_rows.specs.Agreement.{IsScopeRow}
-use Rattle.scope_rows.proofs.Joinings.{joined_is_some}
-use Rattle.realm_state.specs.Readings.{counts_some}
+use Rattle.std.proofs.Common.{ℕ, ◌&&◌, ◌∙◌, ◌≡◌, ap, cond, is_some, not}
+use Rattle.realm_state.specs.{History, IsScopeRow, NotJoined, Plain, ScopeRow, Violated, counts_some, has_tasks, joined, verdict}
+use Rattle.realm_state.proofs.Words.{joined_is_some, tasks_by_counts}
 
 -- the verdict goes by the row's marks and counts
 pub verdict_where : (h : History) (s : ℕ) (r : ScopeRow) → IsScopeRow h s r → verdict h s ≡ cond r.violated Violated (cond (counts_some r.counts && not (is_some r.joined)) NotJoined Plain)

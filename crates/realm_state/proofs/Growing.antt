@@ -1,16 +1,7 @@
 -- A fitting history stays fitting with one more event that fits.
-use Rattle.std.proofs.Common.{◌≡◌, Bool, true, false, Result, Some, is_ok, slice_get, [], sym, subst, arith, inl, inr, ◌∙◌}
-use Rattle.std.specs.Prelude.{if◌then◌else◌}
-use Rattle.scope_rules.specs.declared.types.events.Event.{Event}
-use Rattle.scope_rules.specs.declared.types.refusals.Refusal.{Refusal}
-use Rattle.scope_rules.specs.Ends.{LabelValue, EndValue}
-use Rattle.scope_rules.specs.Origin.{Origin}
-use Rattle.scope_rules.specs.History.{History, before, followed}
-use Rattle.scope_rules.specs.Replies.{Realm, starting, base_of, after_retiring, with_event}
-use Rattle.scope_rules.proofs.Pushing.{entry_of_push, before_push, before_all}
-use Rattle.scope_checks.specs.declared.event_replies.EventReply.{EventReply}
-use Rattle.scope_checks.specs.EventReplies.{records, after_telling}
-use Rattle.realm_state.specs.Fits.{FitsEvent, Fitting}
+use Rattle.std.proofs.Common.{[], ◌∙◌, ◌≡◌, Bool, Result, Some, arith, false, if◌then◌else◌, inl, inr, is_ok, slice_get, subst, sym, true}
+use Rattle.realm_state.specs.{EndValue, Event, EventReply, FitsEvent, Fitting, History, LabelValue, Origin, Realm, Refusal, after_retiring, after_telling, base_of, before, followed, records, starting, with_event}
+use Rattle.realm_state.proofs.Words.{before_all, before_push, entry_of_push}
 
 -- a history without events is fitting
 pub fitting_at_start : (F : LabelValue → EndValue → Type 0) (b : Origin) → Fitting F (record { base = b; events = [] })

@@ -6,3 +6,4 @@ pub mod Growing
 pub mod NeverOpened
 pub mod Closed
 pub mod StepPlaces
+mod Words

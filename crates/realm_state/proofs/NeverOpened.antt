@@ -1,26 +1,8 @@
 -- Of a scope that was never opened, and of a task that was never forked, nothing is said.
-use Rattle.std.proofs.Common.{◌≡◌, ℕ, ◌+◌, ◌==◌, ◌&&◌, Bool, true, false, not, nat_lt, Option, Some, None, length, refl, ap, sym, ◌∙◌, arith}
-use Rattle.std.proofs.lemmas.Bool.Decides.{nat_tests}
-use Rattle.std.specs.Option.{option_map_or}
-use Rattle.scope_rules.specs.declared.types.capacity.Limits.{Limits}
-use Rattle.scope_rules.specs.declared.types.answers.Stage.TheVariants.{Never, Waiting, Running}
-use Rattle.scope_rules.specs.declared.types.answers.Counts.{Counts}
-use Rattle.scope_rules.specs.declared.types.records.Opening.{Opening}
-use Rattle.scope_rules.specs.declared.types.records.Forking.{Forking}
-use Rattle.scope_rules.specs.History.{History, before, opening, forking}
-use Rattle.scope_rules.specs.Scopes.{joined, closing, closed, innermost, surrounding, level, next_level}
-use Rattle.scope_rules.specs.Tasks.{stage, stage_of, settled, counts}
-use Rattle.scope_rules.specs.Legal.{Legal}
-use Rattle.scope_rules.proofs.Nesting.{forked_opened}
-use Rattle.scope_rules.proofs.NewScopes.{HasNoTask, joined_opened, no_tally}
-use Rattle.scope_rules.proofs.InnermostSteps.{closed_opened}
-use Rattle.scope_rules.proofs.Tallies.{settled_by_counts}
-use Rattle.scope_rules.specs.Bindings.{stack, bound_as_at, bound_as_opened, holds_last}
-use Rattle.scope_rules.proofs.Bound.{stack_then, is_held, held_by_innermost}
-use Rattle.scope_index.proofs.NeverOpened.{never}
-use Rattle.realm_state.specs.Readings.{opened_as_high}
-use Rattle.scope_rows.proofs.Unopened.{closing_opened}
-use Rattle.scope_index.proofs.OpenSteps.{false_by}
+use Rattle.std.proofs.Common.{ℕ, ◌&&◌, ◌+◌, ◌==◌, ◌∙◌, ◌≡◌, Bool, None, Option, Some, ap, arith, false, length, nat_lt, not, refl, sym, true}
+use Rattle.realm_state.specs.{Counts, Forking, History, Legal, Limits, Never, Opening, Running, Waiting, before, bound_as_at, bound_as_opened, closed, closing, counts, forking, holds_last, innermost, joined, level, next_level}
+use Rattle.realm_state.specs.{opened_as_high, opening, option_map_or, settled, stack, stage, stage_of, surrounding}
+use Rattle.realm_state.proofs.Words.{HasNoTask, closed_opened, closing_opened, false_by, forked_opened, held_by_innermost, is_held, joined_opened, nat_tests, never, no_tally, settled_by_counts, stack_then}
 
 pub unjoined : (L : Limits) (h : History) (s : ℕ) → Legal L h → opening h s ≡ None → joined h s ≡ false
 unjoined L h s legal none = false_by (joined h s) (λ is. never h s none (joined_opened L h s legal is))

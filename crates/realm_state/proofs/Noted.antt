@@ -1,22 +1,8 @@
 -- When an accepted event can be told to the trails of its realm, and what they are of then.
-use Rattle.std.proofs.Common.{◌≡◌, ℕ, ◌+◌, ◌≤◌, true, false, Option, [], Result, Ok, Err, OnOk, inl, inr, length, ap, sym, subst, ◌∙◌, arith}
-use Rattle.std.specs.Result.{is_err}
-use Rattle.scope_rules.specs.declared.types.capacity.Limits.{Limits}
-use Rattle.scope_rules.specs.declared.types.events.Event.{Event}
-use Rattle.scope_rules.specs.declared.types.events.Event.TheVariants.{Open}
-use Rattle.scope_rules.specs.History.{History, followed, is_open}
-use Rattle.scope_rules.specs.Legal.{Accepts, Legal}
-use Rattle.scope_rules.specs.Load.{load, weight}
-use Rattle.scope_rules.specs.Origin.{Origin}
-use Rattle.scope_rules.specs.Replies.{Realm, with_event, starting, AnswersOrMemory, base_check}
-use Rattle.scope_rules.specs.Checks.{Checked}
-use Rattle.scope_rules.proofs.Pushing.{load_push}
-use Rattle.scope_journal.specs.Places.{scope_of_event}
-use Rattle.scope_journal.specs.TrailTable.{TrailTable}
-use Rattle.scope_journal.specs.TrailsOf.{AreTrailsOf, HasLoadRoom}
-use Rattle.scope_journal.proofs.EventRoom.{events_room}
-use Rattle.scope_journal.proofs.Trailed.{event_trail}
-use Rattle.realm_state.specs.Noting.{HasRoomFor, CanBeNoted}
+use Rattle.std.proofs.Common.{[], ℕ, ◌+◌, ◌∙◌, ◌≡◌, ◌≤◌, Err, Ok, OnOk, Option, Result, ap, arith, false, inl, inr, length, subst, sym, true}
+use Rattle.realm_state.specs.{Accepts, AnswersOrMemory, AreTrailsOf, CanBeNoted, Checked, Event, HasLoadRoom, HasRoomFor, History, Legal, Limits, Open, Origin, Realm, TrailTable, base_check, followed, is_err, is_open, load}
+use Rattle.realm_state.specs.{scope_of_event, starting, weight, with_event}
+use Rattle.realm_state.proofs.Words.{event_trail, events_room, load_push}
 
 -- the event can be told where there is room
 pub can_tell : (L : Limits) (h : History) (e : Event) (t : TrailTable) (scope : Option ℕ) (place : ℕ) → Legal L h → Accepts L h e → AreTrailsOf h t → HasLoadRoom (followed h e) t.room → (is_open e ≡ true → 1 ≤ t.spare) → (is_open e ≡ false → scope ≡ scope_of_event h e) → place ≡ length h.events

@@ -1,24 +1,8 @@
 -- What is said so far at a scope's places, as its log is made.
-use Rattle.std.proofs.Common.{◌≡◌, ℕ, ◌+◌, ◌<◌, ◌≤◌, ◌^◌, Option, Some, None, option_map, List, [], ◌∷◌, ◌++◌, length, take, get_or, slice_get, refl, ap, sym, subst, ◌∙◌, arith, length-append}
-use Rattle.std.proofs.lemmas.List.{take_more}
-use Rattle.std.proofs.lemmas.Option.{slice_get-get_or, slice_get_within}
-use Rattle.std.specs.List.{filter_map, cons_option}
-use Rattle.scope_rules.specs.declared.types.answers.Cause.{Cause}
-use Rattle.scope_rules.specs.declared.types.capacity.Limits.{Limits}
-use Rattle.scope_rules.specs.declared.types.capacity.TheConstants.{LOAD_LIMIT}
-use Rattle.scope_rules.specs.declared.types.events.Event.{Event}
-use Rattle.scope_rules.specs.declared.types.records.Opening.{Opening}
-use Rattle.scope_rules.specs.History.{History, opening}
-use Rattle.scope_rules.specs.Legal.{Legal, IsWithin}
-use Rattle.scope_rules.proofs.Completions.{filter_map-push}
-use Rattle.scope_log.specs.declared.entries.LogEntry.{LogEntry}
-use Rattle.scope_log.specs.LocalForms.{task_forked, tasks_in}
-use Rattle.scope_log.specs.Log.{said_with, entry_at, entries, log}
-use Rattle.scope_log.proofs.LogSizes.{entries_small}
-use Rattle.scope_rules.specs.Nests.{tasks_of}
-use Rattle.scope_journal.specs.Marks.{cancel_of, marked}
-use Rattle.scope_journal.specs.Places.{places_of}
-use Rattle.scope_journal.proofs.Projected.{IsSaid, place_said, next_said, projected}
+use Rattle.std.proofs.Common.{[], ℕ, ◌++◌, ◌+◌, ◌<◌, ◌^◌, ◌∙◌, ◌∷◌, ◌≡◌, ◌≤◌, List, None, Option, Some, ap, arith, get_or, length, length-append, option_map, refl, slice_get, subst, sym, take}
+use Rattle.realm_state.specs.{Cause, Event, History, IsWithin, LOAD_LIMIT, Legal, Limits, LogEntry, Opening, cancel_of, cons_option, entries, entry_at, filter_map, log, marked, opening, places_of, said_with, task_forked, tasks_in}
+use Rattle.realm_state.specs.{tasks_of}
+use Rattle.realm_state.proofs.Words.{IsSaid, entries_small, filter_map-push, next_said, place_said, projected, slice_get-get_or, slice_get_within, take_more}
 
 -- the entries of the first n places, and how many tasks they fork
 pub record AreSaid (h : History) (s : ℕ) (ps : List ℕ) (n : ℕ) (es : List LogEntry) (forked : ℕ) : Type 0 where

@@ -1,30 +1,10 @@
 -- Where a scope takes a step: once at most, and by an event of its own.
-use Rattle.std.proofs.Common.{◌≡◌, ℕ, ◌<◌, ◌≤◌, Bool, true, false, not, cond, is_some, nat_lt, Option, Some, None, List, length, get_or, take, slice_get, refl, ap, sym, subst, ◌∙◌, arith, inl, inr, ◌⊎◌}
-use Rattle.std.proofs.lemmas.Bool.{cases_order, cases_lt, both_ways, lt-ltb, le-ltb, eqb-true, false_from_ne_true}
-use Rattle.std.proofs.lemmas.List.Sums.{position_or_len_is, passes_at_first}
-use Rattle.std.proofs.lemmas.Option.{slice_get_within, slice_get-get_or, get_or_from_slice_get}
-use Rattle.std.specs.Option.{option_map_or}
-use Rattle.std.specs.List.{list_any, position, position_or_len}
-use Rattle.scope_rules.specs.declared.types.capacity.Limits.{Limits}
-use Rattle.scope_rules.specs.declared.types.events.Event.{Event}
-use Rattle.scope_rules.specs.declared.types.events.Event.TheVariants.{Tick, Join, BeginClose, EndClose}
-use Rattle.scope_rules.specs.declared.types.records.Opening.{Opening}
-use Rattle.scope_rules.specs.History.{History, before, opening}
-use Rattle.scope_rules.specs.Legal.{Accepts, Legal}
-use Rattle.scope_rules.specs.Owed.{begin_mark, marks}
-use Rattle.scope_rules.specs.Scopes.{joined, closed}
-use Rattle.scope_rules.specs.Table.{row_check}
-use Rattle.scope_rules.proofs.Accepted.{checks_at, not_refused, lacks_begin}
-use Rattle.scope_rules.proofs.Earlier.{get_take, opening_since}
-use Rattle.scope_rules.proofs.Nesting.{IsOpened, opened_some}
-use Rattle.scope_rules.proofs.PassedRows.{IsOwner, owner_passed, begin_close_passed, end_close_passed}
-use Rattle.scope_log.specs.Log.{is_of}
-use Rattle.scope_log.proofs.Splitting.{none_where}
-use Rattle.scope_journal.specs.Places.{is_of_at, IsLatest}
-use Rattle.scope_journal.proofs.Latest.{own_within}
-use Rattle.realm_state.specs.declared.steps.Step.{Step}
+use Rattle.std.proofs.Common.{ℕ, ◌<◌, ◌∙◌, ◌≡◌, ◌≤◌, ◌⊎◌, Bool, List, None, Option, Some, ap, arith, cond, false, get_or, inl, inr, is_some, length, nat_lt, not, refl, slice_get, subst, sym, take, true}
+use Rattle.realm_state.specs.{Accepts, BeginClose, EndClose, Event, History, IsLatest, Join, Legal, Limits, Opening, Step, Tick, before, begin_mark, closed, is_of, is_of_at, joined, list_any, marks, opening, option_map_or}
+use Rattle.realm_state.specs.{position, position_or_len, row_check, takes}
+use Rattle.realm_state.proofs.Words.{IsOpened, IsOwner, begin_close_passed, both_ways, cases_lt, cases_order, checks_at, end_close_passed, eqb-true, false_from_ne_true, get_or_from_slice_get, get_take, lacks_begin, le-ltb, lt-ltb}
+use Rattle.realm_state.proofs.Words.{none_where, not_refused, opened_some, opening_since, own_within, owner_passed, passes_at_first, position_or_len_is, slice_get-get_or, slice_get_within}
 use Rattle.realm_state.specs.declared.steps.Step.TheVariants as step
-use Rattle.realm_state.specs.Steps.{takes}
 
 -- ---- the first that passes
 

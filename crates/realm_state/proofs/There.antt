@@ -1,42 +1,10 @@
 -- What is kept has a row for each scope that was opened, each task that was forked and each actor that acts.
-use Rattle.std.proofs.Common.{◌≡◌, ℕ, ◌<◌, true, is_some, Option, Some, None, IsSome, length, slice_get, refl, ap, sym, subst, ◌∙◌, arith}
-use Rattle.std.specs.Option.{option_and_then}
-use Rattle.scope_rules.specs.declared.types.capacity.Limits.{Limits}
-use Rattle.scope_rules.specs.declared.types.events.Event.{Event}
-use Rattle.scope_rules.specs.declared.types.events.Event.TheVariants.{Fork}
-use Rattle.scope_rules.specs.declared.types.records.Opening.{Opening}
-use Rattle.scope_rules.specs.declared.types.values.Label.{Label}
-use Rattle.scope_rules.specs.History.{History, opening, forking, forking_of}
-use Rattle.scope_rules.specs.Legal.{Legal}
-use Rattle.scope_rules.specs.Scopes.{joined, surrounding}
-use Rattle.scope_rules.specs.Checks.{actor_check, scope_check, task_check, known_task}
-use Rattle.scope_rules.specs.Replies.{outcome_check}
-use Rattle.scope_rules.proofs.Accepted.{checks_at, not_refused, not_not}
-use Rattle.scope_rules.proofs.Earlier.{forking_event, forking_within}
-use Rattle.scope_rules.proofs.Owing.{if_refused}
-use Rattle.scope_rules.proofs.Nesting.{IsOpened, surrounding_opened}
-use Rattle.scope_rules.proofs.NewScopes.{scope_passed}
-use Rattle.scope_rules.proofs.PassedRows.{actor_passed}
-use Rattle.scope_checks.specs.Passes.{Passes}
-use Rattle.scope_rows.specs.declared.records.ScopeRow.{ScopeRow}
-use Rattle.scope_rows.specs.declared.records.TaskRow.{TaskRow}
-use Rattle.scope_rows.specs.Agreement.{AreRowsOf, IsScopeRow, IsTaskRow}
-use Rattle.scope_rows.specs.Table.{RowTable, scope_row}
-use Rattle.scope_rows.proofs.Joinings.{joined_is_some}
-use Rattle.scope_rows.proofs.Places.{scope_at, scope_row_is}
-use Rattle.scope_index.specs.CancelTables.{CancelTable, HasRow}
-use Rattle.scope_index.specs.CancelsOf.{AreCancelsOf}
-use Rattle.scope_index.proofs.CancelReadings.{has_row}
-use Rattle.scoped_env.specs.EnvTable.{EnvTable, HasEnv}
-use Rattle.scoped_env.specs.Agreement.{AreEnvsOf}
-use Rattle.scoped_env.proofs.Held.{has_env_of_actor}
-use Rattle.scope_rows.specs.DeadlineTable.{DeadlineTable, HasDeadline}
-use Rattle.scope_rows.specs.DeadlinesOf.{AreDeadlinesOf}
-use Rattle.scope_rows.proofs.DeadlineSteps.{opened_has_deadline}
-use Rattle.scope_index.specs.Answers.{HasJoined}
-use Rattle.scope_index.specs.ForkTable.{ForkTable, HasForks}
-use Rattle.scope_index.specs.ForksOf.{AreForksOf}
-use Rattle.scope_index.proofs.Held.{opened_has_forks}
+use Rattle.std.proofs.Common.{ℕ, ◌<◌, ◌∙◌, ◌≡◌, IsSome, None, Option, Some, ap, arith, is_some, length, refl, slice_get, subst, sym, true}
+use Rattle.realm_state.specs.{AreCancelsOf, AreDeadlinesOf, AreEnvsOf, AreForksOf, AreRowsOf, CancelTable, DeadlineTable, EnvTable, Event, Fork, ForkTable, HasDeadline, HasEnv, HasForks, HasJoined, HasRow, History, IsScopeRow}
+use Rattle.realm_state.specs.{IsTaskRow, Label, Legal, Limits, Opening, Passes, RowTable, ScopeRow, TaskRow, actor_check, forking, forking_of, joined, known_task, opening, option_and_then, outcome_check, scope_check, scope_row}
+use Rattle.realm_state.specs.{surrounding, task_check}
+use Rattle.realm_state.proofs.Words.{IsOpened, actor_passed, checks_at, forking_event, forking_within, has_env_of_actor, has_row, if_refused, joined_is_some, not_not, not_refused, opened_has_deadline, opened_has_forks, scope_at}
+use Rattle.realm_state.proofs.Words.{scope_passed, scope_row_is, surrounding_opened}
 
 -- a scope that passes was opened
 pub opened_there : (h : History) (s : ℕ) → Passes (scope_check h s) → IsSome (opening h s)

@@ -1,10 +1,6 @@
 -- Which histories are fitting: the end of each task fits the label that it was forked with.
-use Rattle.std.specs.Prelude.{◌≡◌, ℕ, Some, slice_get}
-use Rattle.std.specs.Option.{ForSome}
-use Rattle.scope_rules.specs.declared.types.events.Event.{Event}
-use Rattle.scope_rules.specs.declared.types.events.Event.TheVariants.{Finish}
-use Rattle.scope_rules.specs.Ends.{LabelValue, EndValue}
-use Rattle.scope_rules.specs.History.{History, before, forking}
+use Rattle.std.specs.Prelude.{ℕ, ◌≡◌, Some, slice_get}
+use Rattle.realm_state.specs.Words.{EndValue, Event, Finish, ForSome, History, LabelValue, before, forking}
 
 -- the end fits the label of task k, if there is such a task
 abbrev pub FitsTask : (LabelValue → EndValue → Type 0) → History → ℕ → EndValue → Type 0

@@ -1,9 +1,8 @@
 -- What a realm is once a list that it lent is handed back.
-use Rattle.std.specs.Prelude.{◌≡◌, ⊤}
-use Rattle.std.specs.Borrow.{follows_so, Fml, MutBor}
-use mathlib.Core.Option.{none}
-use Rattle.scope_rules.specs.Replies.{Realm}
+use Rattle.std.specs.Prelude.{⊤, ◌≡◌}
+use Rattle.realm_state.specs.Words.{Fml, MutBor, Realm, follows_so}
 use Rattle.realm_state.specs.contracts.realm.RealmState.{the_row}
+use mathlib.Core.Option.{none}
 
 -- it is what it was before
 abbrev pub KeepsRealm : MutBor Realm → Fml

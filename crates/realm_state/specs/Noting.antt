@@ -1,12 +1,6 @@
 -- When the places of the scopes' events can be told an event, and what they are then.
-use Rattle.std.specs.Prelude.{◌≡◌, ℕ, ◌≤◌, true, false, Option, Some, length}
-use Rattle.scope_rules.specs.declared.types.capacity.Limits.{Limits}
-use Rattle.scope_rules.specs.declared.types.events.Event.{Event}
-use Rattle.scope_rules.specs.History.{History, followed, is_open}
-use Rattle.scope_rules.specs.Legal.{Legal}
-use Rattle.scope_journal.specs.Places.{scope_of_event}
-use Rattle.scope_journal.specs.TrailTable.{TrailTable, HasTrail, HasEventRoom}
-use Rattle.scope_journal.specs.TrailsOf.{AreTrailsOf, HasLoadRoom}
+use Rattle.std.specs.Prelude.{ℕ, ◌≡◌, ◌≤◌, Option, Some, false, length, true}
+use Rattle.realm_state.specs.Words.{AreTrailsOf, Event, HasEventRoom, HasLoadRoom, HasTrail, History, Legal, Limits, TrailTable, followed, is_open, scope_of_event}
 
 -- there is room for what so much load pays for, and for the scope that the event opens, if it does
 abbrev pub HasRoomFor : TrailTable → Event → ℕ → Type 0

@@ -1,9 +1,6 @@
 -- What a realm is read by: rows, and heights of stacks.
-use Rattle.std.specs.Prelude.{ℕ, ◌+◌, Bool, false, nat_lt, nat_le, length}
-use Rattle.std.specs.Option.{option_map_or}
-use Rattle.scope_rules.specs.declared.types.answers.Counts.{Counts}
-use Rattle.scope_rules.specs.History.{History, before, opening}
-use Rattle.scope_rules.specs.Bindings.{stack}
+use Rattle.std.specs.Prelude.{ℕ, ◌+◌, Bool, false, length, nat_le, nat_lt}
+use Rattle.realm_state.specs.Words.{Counts, History, before, opening, option_map_or, stack}
 
 -- a task is counted at some stage
 abbrev pub counts_some : Counts → Bool

@@ -1,4 +1,4 @@
-ghost use Rattle.scope_checks.specs.Entering.{Retires, Tells};
+ghost use Rattle.realm_state.specs.{Retires, Tells};
 
 use crate::realm::RealmState;
 use join_rules::StoredTest;

@@ -1,8 +1,5 @@
-ghost use Rattle.std.specs.Prelude.{◌≡◌, ℕ, [], List, slice_get};
-ghost use Rattle.scope_checks.specs.Entering.{Retires, Tells};
-ghost use Rattle.scope_checks.specs.Ruled.{IsRuled};
-ghost use Rattle.scope_index.specs.CancelsOf.{IsCancelOrderOf};
-ghost use Rattle.realm_state.specs.Fits.{FitsEvent, Fitting};
+ghost use Rattle.std.specs.Prelude.{[], ℕ, ◌≡◌, List, slice_get};
+ghost use Rattle.realm_state.specs.{FitsEvent, Fitting, IsCancelOrderOf, IsRuled, Retires, Tells};
 
 use crate::realm::RealmState;
 use join_rules::StoredTest;

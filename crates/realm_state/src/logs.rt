@@ -1,16 +1,7 @@
 //! The log of a scope, read off its own events' places.
 
-ghost use Rattle.std.specs.Prelude.{◌≡◌, ◌+◌, ◌≤◌, ◌<◌, ◌^◌, [], Ok, Some, IfOk, length, slice_index_or};
-ghost use Rattle.std.specs.List.{filter_map, cons_option};
-ghost use Rattle.scope_rules.specs.History.{opening};
-ghost use Rattle.scope_rules.specs.Checks.{scope_check};
-ghost use Rattle.scope_rules.specs.Table.{check_of};
-ghost use Rattle.scope_rules.specs.Replies.{AnswersValue};
-ghost use Rattle.scope_log.specs.Log.{said_with, entry_at, entries, log};
-ghost use Rattle.scope_log.specs.LocalForms.{task_forked};
-ghost use Rattle.scope_log.specs.Previews.{preview};
-ghost use Rattle.scope_journal.specs.Places.{places_of};
-ghost use Rattle.scope_journal.specs.Marks.{up_to, marked};
+ghost use Rattle.std.specs.Prelude.{[], ◌+◌, ◌<◌, ◌^◌, ◌≡◌, ◌≤◌, IfOk, Ok, Some, length, slice_index_or};
+ghost use Rattle.realm_state.specs.{AnswersValue, check_of, cons_option, entries, entry_at, filter_map, log, marked, opening, places_of, preview, said_with, scope_check, task_forked, up_to};
 
 use crate::realm::RealmState;
 use scope_checks::checks::scope_check;

@@ -1,11 +1,7 @@
 //! Notes each event in the links between the events of its scope.
 
-ghost use Rattle.std.specs.Prelude.{◌≡◌, false, OnOk};
-ghost use Rattle.scope_rules.specs.History.{History, is_open};
-ghost use Rattle.scope_rows.specs.Agreement.{AreRowsOf};
-ghost use Rattle.scope_journal.specs.Places.{scope_of_task, scope_of_event};
-ghost use Rattle.scope_journal.specs.TrailsOf.{AreTrailsOf};
-ghost use Rattle.realm_state.specs.Noting.{HasRoomFor, CanBeNoted, HasNoted};
+ghost use Rattle.std.specs.Prelude.{◌≡◌, OnOk, false};
+ghost use Rattle.realm_state.specs.{AreRowsOf, AreTrailsOf, CanBeNoted, HasNoted, HasRoomFor, History, is_open, scope_of_event, scope_of_task};
 
 use scope_journal::Trails;
 use scope_rows::Rows;

@@ -1,23 +1,9 @@
 //! The readings that checks and queries go by, read off the index. Of a scope or task without a row it says
 //! what the rules say of one that was never opened or forked.
 
-ghost use Rattle.std.specs.Prelude.{◌≡◌, ℕ, ◌==◌, ◌&&◌, ◌<◌, ◌^◌, Some, IsSome, is_some, not, option_map, if◌then◌else◌, MatchOption};
-ghost use Rattle.scope_rules.specs.declared.types.events.Event.TheVariants.{Fork};
-ghost use Rattle.scope_rules.specs.declared.types.values.Label.{Label};
-ghost use Rattle.scope_rules.specs.History.{opening, forking, forking_of};
-ghost use Rattle.scope_rules.specs.Checks.{actor_check};
-ghost use Rattle.scope_rules.specs.Legal.{Legal};
-ghost use Rattle.scope_rules.specs.Nests.{tasks_of};
-ghost use Rattle.scope_rules.specs.Outcomes.{outcome};
-ghost use Rattle.scope_rules.specs.Replies.{outcome_check};
-ghost use Rattle.scope_rules.specs.Scopes.{forked_in, surrounding, level};
-ghost use Rattle.scope_rows.specs.Agreement.{AreRowsOf, IsScopeRow, IsTaskRow};
-ghost use Rattle.scope_checks.specs.Passes.{Passes};
-ghost use Rattle.scope_index.specs.CancelsOf.{AreCancelsOf};
-ghost use Rattle.scope_index.specs.Coming.{IsNextDeadline, NoDeadlineComes};
-ghost use Rattle.scoped_env.specs.Agreement.{AreEnvsOf};
-ghost use Rattle.scope_index.specs.Bare.{bare_of};
-ghost use Rattle.realm_state.specs.Readings.{counts_some, opened_as_high};
+ghost use Rattle.std.specs.Prelude.{ℕ, ◌&&◌, ◌<◌, ◌==◌, ◌^◌, ◌≡◌, IsSome, MatchOption, Some, if◌then◌else◌, is_some, not, option_map};
+ghost use Rattle.realm_state.specs.{AreCancelsOf, AreEnvsOf, AreRowsOf, Fork, IsNextDeadline, IsScopeRow, IsTaskRow, Label, Legal, NoDeadlineComes, Passes, actor_check, bare_of, counts_some, forked_in, forking, forking_of, level};
+ghost use Rattle.realm_state.specs.{opened_as_high, opening, outcome, outcome_check, surrounding, tasks_of};
 
 use crate::realm::RealmState;
 use scope_checks::Readings;

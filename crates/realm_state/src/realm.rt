@@ -1,13 +1,5 @@
-ghost use Rattle.std.specs.Prelude.{◌≡◌, ◌<◌, ℕ, [], Some, List, drop, length, slice_get, IfOk, MatchResult};
-ghost use Rattle.std.specs.Borrow.{sem};
-ghost use Rattle.scope_rules.specs.Legal.{Accepts, Legal};
-ghost use Rattle.scope_rules.specs.Load.{weight};
-ghost use Rattle.scope_rules.specs.Replies.{with_event, starting, base_check, base_of, AnswersOrMemory};
-ghost use Rattle.scope_index.specs.CancelsOf.{IsCancelOrderOf};
-ghost use Rattle.scope_index.specs.Lent.{scopes_of};
-ghost use Rattle.scope_index.specs.IndexTables.{IsIndexOf};
-ghost use Rattle.realm_state.specs.Lending.{KeepsRealm};
-ghost use Rattle.scope_checks.specs.Ruled.{IsRuled};
+ghost use Rattle.std.specs.Prelude.{[], ℕ, ◌<◌, ◌≡◌, IfOk, List, MatchResult, Some, drop, length, slice_get};
+ghost use Rattle.realm_state.specs.{Accepts, AnswersOrMemory, IsCancelOrderOf, IsIndexOf, IsRuled, KeepsRealm, Legal, base_check, base_of, scopes_of, sem, starting, weight, with_event};
 
 use crate::noting::{make_room, note, scope_of_event};
 use join_rules::StoredTest;

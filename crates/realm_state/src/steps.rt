@@ -1,10 +1,7 @@
 //! By which events a scope was joined, and its close began and ended.
 
-ghost use Rattle.std.specs.Prelude.{◌≡◌, ◌<◌, IfSome, length};
-ghost use Rattle.std.specs.List.{position};
-ghost use Rattle.scope_rules.specs.Owed.{begin_mark, marks};
-ghost use Rattle.scope_rules.specs.Scopes.{ends, joins};
-ghost use Rattle.realm_state.specs.Steps.{takes};
+ghost use Rattle.std.specs.Prelude.{◌<◌, ◌≡◌, IfSome, length};
+ghost use Rattle.realm_state.specs.{begin_mark, ends, joins, marks, position, takes};
 
 use crate::realm::RealmState;
 use scope_checks::Readings;

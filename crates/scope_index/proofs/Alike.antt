@@ -1,17 +1,6 @@
 -- Parts that are of one history have rows for the same scopes and tasks.
-use Rattle.std.proofs.Common.{sym, ◌∙◌}
-use Rattle.scope_rules.specs.History.{History}
-use Rattle.scope_rows.specs.Table.{RowTable}
-use Rattle.scope_rows.specs.Agreement.{AreRowsOf}
-use Rattle.scoped_env.specs.EnvTable.{EnvTable}
-use Rattle.scope_index.specs.ForkTable.{ForkTable}
-use Rattle.scope_index.specs.ForksOf.{AreForksOf}
-use Rattle.scoped_env.specs.Agreement.{AreEnvsOf}
-use Rattle.scope_index.specs.CancelTables.{CancelTable}
-use Rattle.scope_index.specs.CancelsOf.{AreCancelsOf}
-use Rattle.scope_rows.specs.DeadlineTable.{DeadlineTable}
-use Rattle.scope_rows.specs.DeadlinesOf.{AreDeadlinesOf}
-use Rattle.scope_index.specs.IndexTables.{AreAlike}
+use Rattle.scope_index.specs.{AreAlike, AreCancelsOf, AreDeadlinesOf, AreEnvsOf, AreForksOf, AreRowsOf, CancelTable, DeadlineTable, EnvTable, ForkTable.ForkTable, History, RowTable}
+use Rattle.scope_index.proofs.Words.{◌∙◌, sym}
 
 pub alike : (h : History) (rows : RowTable) (cancels : CancelTable) (envs : EnvTable) (forks : ForkTable) (deadlines : DeadlineTable) → AreRowsOf h rows → AreCancelsOf h cancels → AreEnvsOf h envs → AreForksOf h forks → AreDeadlinesOf h deadlines → AreAlike rows cancels envs forks deadlines
 alike h rows cancels envs forks deadlines r c e f d = record {

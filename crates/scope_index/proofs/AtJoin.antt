@@ -1,29 +1,9 @@
 -- From its join on, the tasks of a scope, their states and what can be read first stay.
-use Rattle.std.proofs.Common.{◌≡◌, ℕ, ◌+◌, ◌<◌, ◌==◌, Bool, true, false, Some, ◌++◌, length, slice_get, refl, ap, sym, subst, ◌∙◌, arith}
-use Rattle.std.proofs.lemmas.Bool.{both_ways, eqb-true, eq-eqb, or_right, false_from_ne_true}
-use Rattle.std.proofs.lemmas.List.{append-nil}
-use Rattle.scope_rules.specs.declared.types.capacity.Limits.{Limits}
-use Rattle.scope_rules.specs.declared.types.events.Event.{Event}
-use Rattle.scope_rules.specs.declared.types.events.Event.TheVariants.{Fork, Join}
-use Rattle.scope_rules.specs.declared.types.values.Completion.{Completion}
-use Rattle.scope_rules.specs.History.{History, before, followed, tasks}
-use Rattle.scope_rules.specs.Scopes.{joins, joined}
-use Rattle.scope_rules.specs.Outcomes.{first_read, joining}
-use Rattle.scope_rules.specs.Tasks.{state, ready}
-use Rattle.scope_rules.specs.Table.{row_check}
-use Rattle.scope_rules.specs.Legal.{Accepts, Legal}
-use Rattle.scope_rules.proofs.Answered.{joining_entry}
-use Rattle.scope_rules.proofs.Forkings.{IsTask}
-use Rattle.scope_rules.proofs.Accepted.{checks_at, not_refused, not_not}
-use Rattle.scope_rules.proofs.Nesting.{IsOpened, legal_before}
-use Rattle.scope_rules.proofs.NewScopes.{scope_passed}
-use Rattle.scope_rules.proofs.OneEventMore.{joined_grows, joined_stays}
-use Rattle.scope_rules.proofs.Prefixes.{take_at}
-use Rattle.scope_rules.specs.Nests.{tasks_of}
-use Rattle.scope_index.proofs.Since.{since}
-use Rattle.scope_index.proofs.TaskLists.{if_one, tasks_kept, tasks_forked}
-use Rattle.scope_index.proofs.Over.{IsOver, forks_for, over_ready, over_stays, over_states, task_before}
-use Rattle.scope_index.proofs.Readings.{first_over}
+use Rattle.std.proofs.Common.{ℕ, ◌++◌, ◌+◌, ◌<◌, ◌==◌, ◌∙◌, ◌≡◌, Bool, Some, ap, arith, false, length, refl, slice_get, subst, sym, true}
+use Rattle.scope_index.specs.{Accepts, Completion, Event, Fork, History, Join, Legal, Limits, before, first_read, followed, joined, joining, joins, ready, row_check, state, tasks, tasks_of}
+use Rattle.scope_index.proofs.Words.{IsOpened, IsTask, append-nil, both_ways, checks_at, eq-eqb, eqb-true, false_from_ne_true, joined_grows, joined_stays, joining_entry, legal_before, not_not, not_refused, or_right, scope_passed}
+use Rattle.scope_index.proofs.Words.{take_at}
+use Rattle.scope_index.proofs.{Over.IsOver, Over.forks_for, Over.over_ready, Over.over_states, Over.over_stays, Over.task_before, Readings.first_over, Since.since, TaskLists.if_one, TaskLists.tasks_forked, TaskLists.tasks_kept}
 
 -- the later history h says of scope s what g says
 pub record IsLike (g : History) (s : ℕ) (h : History) : Type 0 where

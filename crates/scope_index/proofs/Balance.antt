@@ -1,35 +1,10 @@
 -- How forks, stages and completions of a scope balance in a legal history: a scope completes no more often
 -- than tasks were forked in it, and not as often while one of them waits or runs.
-use Rattle.std.proofs.Common.{◌≡◌, ℕ, ◌+◌, ◌≤◌, ◌<◌, ◌==◌, Bool, true, false, cond, Option, Some, None, List, [], ◌∷◌, ◌++◌, length, count_by, refl, ap, ◌∙◌, arith, length-append}
-use Rattle.std.specs.List.{cons_option}
-use Rattle.scope_rules.specs.declared.types.capacity.Limits.{Limits}
-use Rattle.scope_rules.specs.declared.types.capacity.TheConstants.{TASK_LIMIT}
-use Rattle.scope_rules.specs.declared.types.answers.Stage.{Stage}
-use Rattle.scope_rules.specs.declared.types.answers.Stage.TheVariants.{Never, Waiting, Running, Finished}
-use Rattle.scope_rules.specs.declared.types.events.Event.{Event}
-use Rattle.scope_rules.specs.declared.types.events.Event.TheVariants.{Fork, Reject, Start, Finish}
-use Rattle.scope_rules.specs.declared.types.values.Completion.{Completion}
-use Rattle.scope_rules.specs.declared.types.records.Forking.{Forking}
-use Rattle.scope_rules.specs.Ends.{EndValue}
-use Rattle.scope_rules.specs.History.{History, followed, tasks, forking, is_fork}
-use Rattle.scope_rules.specs.Completions.{is_task_of, completion_of, completions}
-use Rattle.scope_rules.specs.Cancels.{is_cancelled}
-use Rattle.scope_rules.specs.Tasks.{rejects, starts, finishes, stage}
-use Rattle.scope_rules.specs.Legal.{Legal, Accepts}
-use Rattle.scope_rules.proofs.Completions.{count_by-cons}
-use Rattle.scope_rules.proofs.CompletionSteps.{completions_grow}
-use Rattle.scope_rules.proofs.Growing.{forking_stays}
-use Rattle.scope_rules.proofs.OneEventMore.{along}
-use Rattle.scope_rules.proofs.Owing.{count_push}
-use Rattle.scope_rules.proofs.PassedRows.{start_passed, reject_passed, finish_passed}
-use Rattle.scope_rules.proofs.StageSteps.{stage_started, stage_rejected, stage_finished, stage_forked, next_forking}
-use Rattle.scope_rules.proofs.Stages.{waiting_forked, running_forked}
-use Rattle.scope_rules.proofs.TallySteps.{tally, tally_stays}
-use Rattle.scope_rows.proofs.CountMoves.{moved_by, forked_by}
-use Rattle.scope_rows.proofs.Keeping.{count_same}
-use Rattle.scope_rows.proofs.TaskLaws.{waiting_is, running_is, names_rejected, names_started, names_finished}
-use Rattle.scope_rows.proofs.WantsMet.{forks_within}
-use Rattle.scope_index.specs.IndexTables.{forks_in, forks_of}
+use Rattle.std.proofs.Common.{[], ℕ, ◌++◌, ◌+◌, ◌<◌, ◌==◌, ◌∙◌, ◌∷◌, ◌≡◌, ◌≤◌, Bool, List, None, Option, Some, ap, arith, cond, count_by, false, length, length-append, refl, true}
+use Rattle.scope_index.specs.{Accepts, Completion, EndValue, Event, Finish, Finished, Fork, Forking, History, IndexTables.forks_in, Legal, Limits, Never, Reject, Running, Stage, Start, TASK_LIMIT, Waiting, completion_of}
+use Rattle.scope_index.specs.{completions, cons_option, finishes, followed, forking, forks_of, is_cancelled, is_fork, is_task_of, rejects, stage, starts, tasks}
+use Rattle.scope_index.proofs.Words.{along, completions_grow, count_by-cons, count_push, count_same, finish_passed, forked_by, forking_stays, forks_within, moved_by, names_finished, names_rejected, names_started, next_forking}
+use Rattle.scope_index.proofs.Words.{reject_passed, running_forked, running_is, stage_finished, stage_forked, stage_rejected, stage_started, start_passed, tally, tally_stays, waiting_forked, waiting_is}
 
 -- what completed, waits and runs in scope s was forked in it, and what was forked is at some stage
 pub record Balance (h : History) (s : ℕ) : Type 0 where

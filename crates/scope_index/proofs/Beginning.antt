@@ -1,11 +1,7 @@
 -- What is kept before the first event.
-use Rattle.std.proofs.Common.{◌≡◌, ℕ, zero, suc, Some, [], refl, sym}
-use Rattle.scope_rules.specs.Origin.{Origin}
-use Rattle.scope_rules.specs.History.{moment}
-use Rattle.scope_rules.specs.Search.{last_of}
-use Rattle.cancel_tree.specs.declared.rows.ScopeNode.{ScopeNode}
+use Rattle.std.proofs.Common.{[], ℕ, ◌≡◌, Some, refl, suc, sym, zero}
+use Rattle.scope_index.specs.{AreCancelsOf, Origin, ScopeNode, last_of, moment}
 use Rattle.cancel_tree.specs.Rows as rows
-use Rattle.scope_index.specs.CancelsOf.{AreCancelsOf}
 
 no_row : (n : ℕ) (t : ScopeNode) → rows.row [] n ≡ Some t → ⊥
 no_row zero t is = absurd cc

@@ -1,28 +1,11 @@
 -- The scopes in order of their cancellation are the history's.
-use Rattle.std.proofs.Common.{◌≡◌, inl, inr, ℕ, zero, suc, ◌+◌, ◌-◌, ◌<◌, ◌≤◌, max, true, false, is_some, Option, Some, None, option_map, List, map, length, get_or, All, Contains, refl, ap, sym, ◌∙◌, subst, arith}
-use Rattle.std.specs.Option.{option_and_then}
-use Rattle.std.proofs.lemmas.Bool.{false≢true, cases_lt}
-use Rattle.std.proofs.lemmas.List.{get_or-map, length-map}
-use Rattle.std.proofs.lemmas.List.Elements.{Contains-get_or}
-use Rattle.std.proofs.lemmas.Option.{slice_get_past}
-use Rattle.scope_rules.specs.declared.types.capacity.Limits.{Limits}
-use Rattle.scope_rules.specs.declared.types.records.Opening.{Opening}
-use Rattle.scope_rules.specs.declared.types.records.OwnCancel.{OwnCancel}
-use Rattle.scope_rules.specs.declared.types.records.FirstCancel.{FirstCancel}
-use Rattle.scope_rules.specs.Chains.{shifted, nearer, onward, outwards, chain_by, earliest_on, first_cancel_by}
-use Rattle.scope_rules.specs.History.{History, opening}
+use Rattle.std.proofs.Common.{ℕ, ◌+◌, ◌-◌, ◌<◌, ◌∙◌, ◌≡◌, ◌≤◌, All, Contains, List, None, Option, Some, ap, arith, false, get_or, inl, inr, is_some, length, map, max, option_map, refl, subst, suc, sym, true, zero}
+use Rattle.scope_index.specs.{AreCancelsOf, CancelTable, FirstCancel, History, IsBefore, IsCancelOrder, IsCancelOrderOf, Legal, Limits, Opening, OwnCancel, ScopeNode, cancel_of, cancelled_at, chain_by, earliest_on, first_cancel}
+use Rattle.scope_index.specs.{first_cancel_by, is_cancelled, nearer, onward, opened_of, opening, option_and_then, outer_of, outwards, own, own_cancel, own_of, shifted}
+use Rattle.scope_index.proofs.Words.{Contains-get_or, cases_lt, false≢true, get_or-map, length-map, opened_after, own_unopened, slice_get_past}
+use Rattle.scope_index.proofs.CancelReadings.{cancel_read, cancelled_read, outer_unopened, unopened}
 use Rattle.scope_rules.specs.Scopes as rules
-use Rattle.scope_rules.specs.Cancels.{own, own_cancel, first_cancel, is_cancelled, cancelled_at}
-use Rattle.scope_rules.specs.Legal.{Legal}
-use Rattle.scope_rules.proofs.Innermosts.{opened_after}
-use Rattle.scope_rules.proofs.Staying.{own_unopened}
-use Rattle.cancel_tree.specs.declared.rows.ScopeNode.{ScopeNode}
 use Rattle.cancel_tree.specs.Rows as rows
-use Rattle.cancel_tree.specs.Rows.{cancel_of, opened_of, outer_of, own_of}
-use Rattle.cancel_tree.specs.Order.{IsBefore, IsCancelOrder}
-use Rattle.scope_index.specs.CancelTables.{CancelTable}
-use Rattle.scope_index.specs.CancelsOf.{AreCancelsOf, IsCancelOrderOf}
-use Rattle.scope_index.proofs.CancelReadings.{cancel_read, cancelled_read, unopened, outer_unopened}
 
 -- a scope with no scope outside and no own cancel has no first cancel
 no_first_cancel : (outer : ℕ → Option ℕ) (own : ℕ → Option FirstCancel) (s : ℕ) → outer s ≡ None → own s ≡ None → first_cancel_by outer own s ≡ None

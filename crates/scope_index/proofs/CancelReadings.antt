@@ -1,38 +1,13 @@
 -- What the table answers is what the history says.
-use Rattle.std.proofs.Common.{◌≡◌, ◌∷◌, [], false, slice_get, ℕ, zero, suc, ◌+◌, ◌-◌, ◌<◌, ◌≤◌, Option, Some, None, option_map, List, length, is_some, refl, ap, sym, ◌∙◌, arith}
-use Rattle.std.specs.Option.{option_and_then, option_map_or}
-use Rattle.scope_rules.specs.declared.types.capacity.Limits.{Limits}
-use Rattle.scope_rules.specs.declared.types.records.OwnCancel.{OwnCancel}
-use Rattle.scope_rules.specs.declared.types.records.FirstCancel.{FirstCancel}
-use Rattle.scope_rules.specs.Chains.{IsInward, shifted}
-use Rattle.scope_rules.specs.Search.{last_of}
-use Rattle.scope_rules.specs.History.{History, opening}
-use Rattle.scope_rules.specs.Scopes.{joined}
+use Rattle.std.proofs.Common.{[], ℕ, ◌+◌, ◌-◌, ◌<◌, ◌∙◌, ◌∷◌, ◌≡◌, ◌≤◌, List, None, Option, Some, ap, arith, false, is_some, length, option_map, refl, slice_get, suc, sym, zero}
+use Rattle.scope_index.specs.{AreCancelsOf, CancelTable, FirstCancel, HasRow, History, IfSome, IsInward, IsLatest, Legal, Limits, OwnCancel, ScopeNode, around, before, cancel_of, chain_by, counting_deadline, deadline, deadline_of}
+use Rattle.scope_index.specs.{effective, effective_of, first_cancel, is_cancelled, joined, last_of, level, level_in, level_of, move_of, next_level, opening, option_and_then, option_map_or, outer_of, own, own_cancel, own_of}
+use Rattle.scope_index.specs.{parent_of, shifted, surrounding}
+use Rattle.scope_index.proofs.Words.{IsOpened, and_then_some, cancel_shifted, chain_shifted, effective_shifted, joined_opened, legal_before, length-map, moved_opened, opened_after, opened_before, opening_within, outer_inward}
+use Rattle.scope_index.proofs.Words.{outer_opened, own_place, own_unopened, parent_inward, parent_smaller, same_Some, surrounding_opened}
+use Rattle.scope_index.proofs.OpenSteps.{false_by, none_by}
 use Rattle.scope_rules.specs.Scopes as rules
-use Rattle.scope_rules.specs.Cancels.{own, own_cancel, first_cancel, is_cancelled, deadline, counting_deadline, effective, move_of}
-use Rattle.scope_rules.specs.Legal.{Legal}
-use Rattle.scope_rules.proofs.Innermosts.{opened_after}
-use Rattle.scope_rules.proofs.Earlier.{opening_within}
-use Rattle.std.proofs.lemmas.Option.{same_Some}
-use Rattle.std.proofs.lemmas.List.{length-map}
-use Rattle.std.specs.Option.{IfSome}
-use Rattle.scope_rules.specs.Chains.{chain_by}
-use Rattle.scope_rules.specs.History.{before}
-use Rattle.scope_rules.specs.Scopes.{around, surrounding, level, next_level}
-use Rattle.scope_rules.proofs.Openings.{and_then_some}
-use Rattle.scope_rules.proofs.Parents.{parent_smaller}
-use Rattle.scope_rules.proofs.Levels.{parent_inward}
-use Rattle.scope_rules.proofs.ShiftedChains.{chain_shifted}
-use Rattle.scope_rules.proofs.Nesting.{IsOpened, opened_before, legal_before, surrounding_opened, outer_opened, outer_inward}
-use Rattle.scope_rules.proofs.Staying.{own_place, own_unopened}
-use Rattle.scope_rules.proofs.NewScopes.{joined_opened, moved_opened}
-use Rattle.scope_rules.proofs.ShiftedChains.{cancel_shifted, effective_shifted}
-use Rattle.cancel_tree.specs.declared.rows.ScopeNode.{ScopeNode}
 use Rattle.cancel_tree.specs.Rows as rows
-use Rattle.cancel_tree.specs.Rows.{IsLatest, level_of, level_in, parent_of, outer_of, own_of, deadline_of, cancel_of, effective_of}
-use Rattle.scope_index.specs.CancelTables.{CancelTable, HasRow}
-use Rattle.scope_index.specs.CancelsOf.{AreCancelsOf}
-use Rattle.scope_index.proofs.OpenSteps.{none_by, false_by}
 
 entry_of : (nodes : List ScopeNode) (i : ℕ) → i < length nodes → (t : ScopeNode) × (slice_get nodes i ≡ Some t)
 entry_of [] i within = absurd (omega arith)

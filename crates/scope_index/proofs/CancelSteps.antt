@@ -1,30 +1,11 @@
 -- What a cancel, a move, a tick and the beginning of a close make of the table.
-use Rattle.std.proofs.Common.{◌≡◌, ◌≢◌, ◌⊎◌, inl, inr, slice_get, ℕ, ◌+◌, ◌-◌, ◌==◌, ◌||◌, Bool, true, false, cond, nat_lt, is_some, Option, Some, None, option_map, length, refl, ap, sym, subst, ◌∙◌, arith}
-use Rattle.std.specs.Option.{option_or, option_map_or}
-use Rattle.std.proofs.lemmas.Bool.{eq-eqb, le-leb, ltb-false}
-use Rattle.scope_rules.specs.declared.types.capacity.Limits.{Limits}
-use Rattle.scope_rules.specs.declared.types.answers.CauseKind.{CauseKind}
-use Rattle.scope_rules.specs.declared.types.answers.CauseKind.TheVariants.{Joiner, Deadline, Call, Close}
-use Rattle.scope_rules.specs.declared.types.records.FirstCancel.{FirstCancel}
-use Rattle.scope_rules.specs.declared.types.events.Event.{Event}
-use Rattle.scope_rules.specs.declared.types.events.Event.TheVariants.{Cancel, Move, Tick, BeginClose}
-use Rattle.scope_rules.specs.History.{History, followed, moment, is_open, tick_of}
-use Rattle.scope_rules.specs.Scopes.{joined, covers}
-use Rattle.scope_rules.specs.Completions.{completion_of}
-use Rattle.scope_rules.specs.Cancels.{move_of, joiner_fires, deadline, counting_deadline}
-use Rattle.scope_rules.specs.Legal.{Legal}
-use Rattle.scope_rules.proofs.Prefixes.{option_or-none}
-use Rattle.scope_rules.proofs.Timed.{moment_grows, counting_grows}
-use Rattle.deadline_core.specs.Moments.{is_past}
-use Rattle.cancel_tree.specs.declared.rows.ScopeNode.{ScopeNode}
+use Rattle.std.proofs.Common.{ℕ, ◌+◌, ◌-◌, ◌==◌, ◌||◌, ◌∙◌, ◌≡◌, ◌≢◌, ◌⊎◌, Bool, None, Option, Some, ap, arith, cond, false, inl, inr, is_some, length, nat_lt, option_map, refl, slice_get, subst, sym, true}
+use Rattle.scope_index.specs.{AreCancelsOf, BeginClose, Call, Cancel, CancelTable, CauseKind, Close, Deadline, Event, FirstCancel, HasRow, History, IsNodeOf, Joiner, Legal, Limits, Move, ScopeNode, Tick, cancel_at, cancelled}
+use Rattle.scope_index.specs.{changed, completion_of, counting_deadline, covers, deadline, followed, is_open, is_past, joined, joiner_fires, moment, move_of, option_map_or, option_or, tick_of, to_come, with_deadline, with_own}
+use Rattle.scope_index.proofs.Words.{counting_grows, eq-eqb, le-leb, ltb-false, moment_grows, option_or-none}
+use Rattle.scope_index.proofs.{EventSteps.Row, EventSteps.at_row_by, EventSteps.moment_same, EventSteps.other_row, EventSteps.row_of_scope, EventSteps.stepped_at, OwnCancels.kind_told, OwnCancels.overdue_cancelled}
+use Rattle.scope_index.proofs.{RowSteps.counting_same, RowSteps.own_some, RowSteps.row_next, RowSteps.row_stays, TableSteps.HasStepped, TableSteps.accounts_stay, TableSteps.at_row, TableSteps.table_next}
 use Rattle.cancel_tree.specs.Rows as rows
-use Rattle.cancel_tree.specs.Rows.{changed, cancel_at, with_own, with_deadline}
-use Rattle.scope_index.specs.CancelTables.{CancelTable, HasRow, to_come, cancelled}
-use Rattle.scope_index.specs.CancelsOf.{IsNodeOf, AreCancelsOf}
-use Rattle.scope_index.proofs.OwnCancels.{kind_told, overdue_cancelled}
-use Rattle.scope_index.proofs.RowSteps.{row_next, row_stays, counting_same, own_some}
-use Rattle.scope_index.proofs.TableSteps.{HasStepped, table_next, accounts_stay, at_row}
-use Rattle.scope_index.proofs.EventSteps.{Row, row_of_scope, stepped_at, at_row_by, moment_same, other_row}
 
 -- ---- a cancel
 

@@ -1,17 +1,7 @@
 -- The first cancel of a scope before a place is its first cancel now, if that came before the place, and else none.
-use Rattle.std.proofs.Common.{◌≡◌, ℕ, ◌<◌, ◌≤◌, cond, Option, Some, None, option_map, [], ◌∷◌, length, take, refl, ap, sym, ◌∙◌, arith, length-append}
-use Rattle.std.proofs.lemmas.Bool.{lt-ltb, le-ltb}
-use Rattle.std.proofs.lemmas.List.{length-take}
-use Rattle.scope_rules.specs.declared.types.capacity.Limits.{Limits}
-use Rattle.scope_rules.specs.declared.types.events.Event.{Event}
-use Rattle.scope_rules.specs.declared.types.records.FirstCancel.{FirstCancel}
-use Rattle.scope_rules.specs.History.{History, before, followed}
-use Rattle.scope_rules.specs.Cancels.{first_cancel, cause}
-use Rattle.scope_rules.specs.Legal.{Accepts, Legal}
-use Rattle.scope_rules.proofs.Growing.{opening_stays}
-use Rattle.scope_rules.proofs.Nesting.{IsOpened}
-use Rattle.scope_rules.proofs.Staying.{Grows, cancel_grows, cancel_within_history}
-use Rattle.scope_index.specs.Answers.{cause_before}
+use Rattle.std.proofs.Common.{[], ℕ, ◌<◌, ◌∙◌, ◌∷◌, ◌≡◌, ◌≤◌, None, Option, Some, ap, arith, cond, length, length-append, option_map, refl, sym, take}
+use Rattle.scope_index.specs.{Accepts, Event, FirstCancel, History, Legal, Limits, before, cause, cause_before, first_cancel, followed}
+use Rattle.scope_index.proofs.Words.{Grows, IsOpened, cancel_grows, cancel_within_history, le-ltb, length-take, lt-ltb, opening_stays}
 use Rattle.scope_index.proofs.Since.{since}
 
 -- a first cancel that goes on from place m says the same before an earlier place

@@ -1,21 +1,11 @@
 -- The index goes on as the rows do.
-use Rattle.std.proofs.Common.{◌≡◌, ℕ, zero, suc, [], ◌∷◌, ◌++◌, length-append, add-one, ◌^◌, ◌+◌, ◌-◌, ◌≤◌, ◌<◌, Bool, true, false, cond, eqb, is_some, Option, Some, None, List, length, slice_get, refl, ap, sym, ◌∙◌, arith}
-use Rattle.std.specs.Option.{option_and_then, option_map, option_or}
-use Rattle.std.specs.Ordering.{nat_cmp, eq_by_cmp}
-use Rattle.std.specs.Cmp.{nat_cmp_total}
+use Rattle.std.proofs.Common.{[], ℕ, ◌++◌, ◌+◌, ◌-◌, ◌<◌, ◌^◌, ◌∙◌, ◌∷◌, ◌≡◌, ◌≤◌, Bool, List, None, Option, Some, add-one, ap, arith, cond, eqb, false, is_some, length, length-append, refl, slice_get, suc, sym, true, zero}
+use Rattle.cancel_tree.proofs.RowLaws.{altered_length}
+use Rattle.scope_index.specs.{AreKept, CauseKind, FirstCancel, IsAdded, JoinerStanding, Moments, ScopeNode, awaited, awaited_of, cancel_at, changed, eq_by_cmp, nat_cmp, nat_cmp_total, new_row, option_and_then, option_map}
+use Rattle.scope_index.specs.{option_or, own_of, to_come, with_deadline, with_own}
+use Rattle.scope_index.proofs.Words.{eqb-true, le-ltb, lt-ltb, nat_tests, row_at, row_changed, slice_get_past}
 use Rattle.std.specs.FinMap as map
-use Rattle.std.proofs.lemmas.Option.{slice_get_past}
-use Rattle.std.proofs.lemmas.Bool.Decides.{nat_tests}
-use Rattle.std.proofs.lemmas.Bool.{eqb-true, lt-ltb, le-ltb}
-use Rattle.scope_rules.specs.declared.types.answers.CauseKind.{CauseKind}
-use Rattle.scope_rules.specs.declared.types.records.FirstCancel.{FirstCancel}
-use Rattle.deadline_core.specs.Moments.{Moments}
-use Rattle.cancel_tree.specs.declared.rows.ScopeNode.{ScopeNode}
 use Rattle.cancel_tree.specs.Rows as rows
-use Rattle.cancel_tree.specs.Rows.{IsAdded, new_row, changed, cancel_at, with_own, with_deadline, own_of}
-use Rattle.cancel_tree.proofs.RowLaws.{altered_length, row_changed, row_at}
-use Rattle.join_rules.specs.JoinerStanding.{JoinerStanding}
-use Rattle.scope_index.specs.CancelTables.{AreKept, awaited, awaited_of, to_come}
 
 pub tied : (q k : ℕ) → eq_by_cmp nat_cmp q k ≡ eqb q k
 tied q k = grind (arith, nat_tests)

@@ -1,30 +1,9 @@
 -- A scope that closes has an own cancel, since the beginning of a close that covers it is one. So a scope that isn't
 -- cancelled isn't closed.
-use Rattle.std.proofs.Common.{◌≡◌, ℕ, ◌&&◌, ◌||◌, Bool, true, false, cond, not, is_some, nat_le, nat_lt, Option, Some, None, option_map, [], length, refl, ap, sym, subst, ◌∙◌, ◌⊎◌, inl, inr}
-use Rattle.std.specs.Option.{option_or}
-use Rattle.std.proofs.lemmas.Bool.{both_ways, eqb-true, false_from_ne_true}
-use Rattle.scope_rules.specs.declared.types.capacity.Limits.{Limits}
-use Rattle.scope_rules.specs.declared.types.answers.CauseKind.{CauseKind}
-use Rattle.scope_rules.specs.declared.types.answers.CauseKind.TheVariants.{Close}
-use Rattle.scope_rules.specs.declared.types.events.Event.{Event}
-use Rattle.scope_rules.specs.declared.types.events.Event.TheVariants.{BeginClose}
-use Rattle.scope_rules.specs.declared.types.records.FirstCancel.{FirstCancel}
-use Rattle.scope_rules.specs.declared.types.records.Opening.{Opening}
-use Rattle.scope_rules.specs.Origin.{Origin}
-use Rattle.scope_rules.specs.Chains.{chain_by, earliest_on, first_cancel_by, nearer, onward, outwards}
-use Rattle.scope_rules.specs.Search.{some_below}
-use Rattle.scope_rules.specs.History.{History, followed, opening}
-use Rattle.scope_rules.specs.Scopes.{begins_closing, closed, closing, covers, have_one_opener, outer}
-use Rattle.scope_rules.specs.Cancels.{direct_kind, first_cancel, is_cancelled, own_cancel}
-use Rattle.scope_rules.specs.Table.{row_check}
-use Rattle.scope_rules.specs.Legal.{Legal, Accepts}
-use Rattle.scope_rules.proofs.Accepted.{checks_at}
-use Rattle.scope_rules.proofs.ClosingOwners.{closed_is_closing}
-use Rattle.scope_rules.proofs.Growing.{opening_stays}
-use Rattle.scope_rules.proofs.Nesting.{IsOpened, opened_some}
-use Rattle.scope_rules.proofs.NewScopes.{scope_passed}
-use Rattle.scope_rules.proofs.OneEventMore.{along, closing_grows}
-use Rattle.cancel_tree.specs.Rows.{cancel_at}
+use Rattle.std.proofs.Common.{[], ℕ, ◌&&◌, ◌||◌, ◌∙◌, ◌≡◌, ◌⊎◌, Bool, None, Option, Some, ap, cond, false, inl, inr, is_some, length, nat_le, nat_lt, not, option_map, refl, subst, sym, true}
+use Rattle.scope_index.specs.{Accepts, BeginClose, CauseKind, Close, Event, FirstCancel, History, Legal, Limits, Opening, Origin, begins_closing, cancel_at, chain_by, closed, closing, covers, direct_kind, earliest_on}
+use Rattle.scope_index.specs.{first_cancel, first_cancel_by, followed, have_one_opener, is_cancelled, nearer, onward, opening, option_or, outer, outwards, own_cancel, row_check, some_below}
+use Rattle.scope_index.proofs.Words.{IsOpened, along, both_ways, checks_at, closed_is_closing, closing_grows, eqb-true, false_from_ne_true, opened_some, opening_stays, scope_passed}
 use Rattle.scope_index.proofs.OwnCancels.{own_cancel_next, some_either}
 
 -- what was opened, and has an own cancel

@@ -1,26 +1,12 @@
 -- The first deadline of the index whose scope isn't cancelled is the one that comes next.
-use Rattle.std.proofs.Common.{◌≡◌, ℕ, ◌+◌, ◌-◌, ◌<◌, ◌≤◌, Bool, true, false, cond, is_some, nat_lt, zero, suc, Option, Some, None, List, [], ◌∷◌, slice_get, refl, ap, sym, ◌∙◌, arith}
-use Rattle.std.specs.Option.{option_and_then}
+use Rattle.std.proofs.Common.{[], ℕ, ◌+◌, ◌-◌, ◌<◌, ◌∙◌, ◌∷◌, ◌≡◌, ◌≤◌, Bool, List, None, Option, Some, ap, arith, cond, false, is_some, nat_lt, refl, slice_get, suc, sym, true, zero}
+use Rattle.scope_index.specs.{AreCancelsOf, AreInOrder, AreKept, CancelTable, FirstCancel, History, IsComing, IsNextDeadline, Legal, Limits, Moments, NoDeadlineComes, Opening, ScopeNode, awaited, awaited_of, cancel_of, chain_by}
+use Rattle.scope_index.specs.{counting_deadline, deadline_of, earliest_on, first_cancel_by, is_cancelled, moment, onward, opening, option_and_then, outwards, own_of, to_come}
+use Rattle.scope_index.proofs.Words.{false≢true, lt-ltb, ltb-true, same_Some}
+use Rattle.scope_index.proofs.{CancelReadings.cancelled_read, CancelReadings.counting_unopened, CancelReadings.deadline_read, CancelReadings.has_row, CancelReadings.numbered, ClosedCancels.live_unclosed, ClosedCancels.near_some}
+use Rattle.scope_index.proofs.{Passing.none_of}
 use Rattle.std.specs.FinMap as map
-use Rattle.std.proofs.lemmas.Bool.{false≢true, lt-ltb, ltb-true}
-use Rattle.std.proofs.lemmas.Option.{same_Some}
-use Rattle.scope_rules.specs.declared.types.capacity.Limits.{Limits}
-use Rattle.scope_rules.specs.declared.types.records.FirstCancel.{FirstCancel}
-use Rattle.scope_rules.specs.declared.types.records.Opening.{Opening}
-use Rattle.scope_rules.specs.Chains.{chain_by, earliest_on, first_cancel_by, onward, outwards}
-use Rattle.scope_rules.specs.History.{History, opening, moment}
-use Rattle.scope_rules.specs.Cancels.{counting_deadline, is_cancelled}
-use Rattle.scope_rules.specs.Legal.{Legal}
-use Rattle.deadline_core.specs.Moments.{Moments, AreInOrder}
-use Rattle.cancel_tree.specs.declared.rows.ScopeNode.{ScopeNode}
 use Rattle.cancel_tree.specs.Rows as rows
-use Rattle.cancel_tree.specs.Rows.{cancel_of, deadline_of, own_of}
-use Rattle.scope_index.specs.CancelTables.{CancelTable, AreKept, awaited, awaited_of, to_come}
-use Rattle.scope_index.specs.CancelsOf.{AreCancelsOf}
-use Rattle.scope_index.specs.Coming.{IsComing, IsNextDeadline, NoDeadlineComes}
-use Rattle.scope_index.proofs.CancelReadings.{cancelled_read, counting_unopened, deadline_read, has_row, numbered}
-use Rattle.scope_index.proofs.ClosedCancels.{live_unclosed, near_some}
-use Rattle.scope_index.proofs.Passing.{none_of}
 
 to_come_is : (now : ℕ) (o : Option ℕ) (d : ℕ) → to_come now o ≡ Some d → (o ≡ Some d) × (now < d)
 to_come_is now None d is = absurd (none_of d is)

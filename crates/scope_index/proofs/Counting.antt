@@ -1,17 +1,7 @@
 -- What counting a completion makes of the account, and what may be asked of it then.
-use Rattle.std.proofs.Common.{◌≡◌, ℕ, ◌+◌, ◌-◌, ◌<◌, ◌≤◌, Bool, cond, Some, List, [], ◌∷◌, ◌++◌, length, slice_get, refl, ap, sym, subst, ◌∙◌, arith}
-use Rattle.std.specs.Option.{IfSome}
-use Rattle.scope_rules.specs.declared.types.capacity.TheConstants.{TASK_LIMIT}
-use Rattle.scope_rules.specs.declared.types.values.Completion.{Completion}
-use Rattle.scope_rules.specs.Joining.{fires}
-use Rattle.scope_rules.proofs.Bound.{some_same}
-use Rattle.cancel_tree.specs.Rows.{IsLatest}
-use Rattle.join_rules.specs.Totals.{Totals, counted}
-use Rattle.join_rules.specs.JoinerStanding.{JoinerStanding, StandsFor}
-use Rattle.join_rules.proofs.StandingLemmas.{stands-push}
-use Rattle.scope_rules.specs.declared.types.answers.CauseKind.TheVariants.{Joiner}
-use Rattle.scope_index.specs.CancelTables.{CancelTable, HasRow, HasCounted, IsCounted, account_at, cancelled}
-use Rattle.scope_index.specs.Completing.{IsCompleted}
+use Rattle.std.proofs.Common.{[], ℕ, ◌++◌, ◌+◌, ◌-◌, ◌<◌, ◌∙◌, ◌∷◌, ◌≡◌, ◌≤◌, Bool, List, Some, ap, arith, cond, length, refl, slice_get, subst, sym}
+use Rattle.scope_index.specs.{CancelTable, Completion, HasCounted, HasRow, IfSome, IsCompleted, IsCounted, IsLatest, Joiner, JoinerStanding, StandsFor, TASK_LIMIT, Totals, account_at, cancelled, counted, fires}
+use Rattle.scope_index.proofs.Words.{some_same, stands-push}
 
 -- the account, before the completion was counted
 pub record CountedFrom (old : CancelTable) (s : ℕ) (d : Completion) (a : JoinerStanding) : Type 0 where

@@ -1,31 +1,12 @@
 -- The walk that cancels the scopes which the beginning of a close covers, step by step.
-use Rattle.std.proofs.Common.{◌≡◌, ◌≢◌, ℕ, ◌+◌, ◌-◌, ◌≤◌, ◌<◌, ◌==◌, ◌&&◌, Bool, true, false, cond, eqb, nat_lt, Option, Some, None, option_map, length, refl, ap, sym, subst, ◌∙◌, arith}
-use Rattle.std.specs.Option.{option_or, option_and_then}
-use Rattle.std.proofs.lemmas.Bool.{eqb-true, eqb-false, eq-eqb, ne_eqb, lt-ltb, le-ltb, ltb-true, ltb-false}
-use Rattle.scope_rules.specs.declared.types.capacity.Limits.{Limits}
-use Rattle.scope_rules.specs.declared.types.answers.CauseKind.TheVariants.{Close}
-use Rattle.scope_rules.specs.declared.types.events.Event.TheVariants.{BeginClose}
-use Rattle.scope_rules.specs.declared.types.records.FirstCancel.{FirstCancel}
-use Rattle.scope_rules.specs.History.{History}
-use Rattle.scope_rules.specs.Scopes.{covers, innermost}
-use Rattle.scope_rules.specs.Legal.{Legal, Accepts}
-use Rattle.scope_rules.proofs.ClosingOwners.{live_is_unclosed}
-use Rattle.scope_rules.proofs.Innermosts.{HasUnclosed, innermost_unclosed, unclosed_innermost}
-use Rattle.scope_rules.proofs.PassedRows.{begin_close_passed}
-use Rattle.cancel_tree.specs.declared.rows.ScopeNode.{ScopeNode}
-use Rattle.cancel_tree.specs.Rows as rows
-use Rattle.cancel_tree.specs.Rows.{IsLatest, own_of, cancel_at, with_own}
+use Rattle.std.proofs.Common.{ℕ, ◌&&◌, ◌+◌, ◌-◌, ◌<◌, ◌==◌, ◌∙◌, ◌≡◌, ◌≢◌, ◌≤◌, Bool, None, Option, Some, ap, arith, cond, eqb, false, length, nat_lt, option_map, refl, subst, sym, true}
 use Rattle.cancel_tree.proofs.RowLaws.{altered_length}
-use Rattle.scope_rows.specs.Table.{RowTable}
-use Rattle.scope_rows.specs.Agreement.{AreRowsOf}
-use Rattle.scope_rows.specs.Steps.{below_of, walk_length}
-use Rattle.scope_rows.proofs.CloseLaws.{are_below}
-use Rattle.scope_rows.proofs.MarkLaws.{covered_unclosed, unclosed_covered}
-use Rattle.scope_index.specs.CancelTables.{CancelTable, HasRow, cancelled}
-use Rattle.scope_index.proofs.CancelSteps.{closing_next}
-use Rattle.scope_index.proofs.CancelReadings.{has_row, latest_place}
-use Rattle.scope_index.proofs.TableSteps.{HasStepped, at_row, changed_rows}
-use Rattle.scope_index.specs.Closing.{CanClose, HasBegunClose}
+use Rattle.scope_index.specs.{Accepts, AreRowsOf, BeginClose, CanClose, CancelTable, Close, FirstCancel, HasBegunClose, HasRow, History, IsLatest, Legal, Limits, RowTable, ScopeNode, below_of, cancel_at, cancelled, covers}
+use Rattle.scope_index.specs.{innermost, option_and_then, option_or, own_of, walk_length, with_own}
+use Rattle.scope_index.proofs.Words.{HasUnclosed, are_below, begin_close_passed, covered_unclosed, eq-eqb, eqb-false, eqb-true, innermost_unclosed, le-ltb, live_is_unclosed, lt-ltb, ltb-false, ltb-true, ne_eqb, unclosed_covered}
+use Rattle.scope_index.proofs.Words.{unclosed_innermost}
+use Rattle.scope_index.proofs.{CancelReadings.has_row, CancelReadings.latest_place, CancelSteps.closing_next, TableSteps.HasStepped, TableSteps.at_row, TableSteps.changed_rows}
+use Rattle.cancel_tree.specs.Rows as rows
 
 -- the walk has come past scope k, which the close covers: it goes on at `next`
 abbrev pub is_done : History → ℕ → Option ℕ → ℕ → Bool

@@ -1,44 +1,10 @@
 -- What is kept before and after the end of a task.
-use Rattle.std.proofs.Common.{◌≡◌, ℕ, zero, suc, ◌+◌, ◌-◌, ◌≤◌, ◌<◌, ◌==◌, Bool, true, false, cond, eqb, Option, Some, None, List, [], ◌∷◌, ◌++◌, length, slice_get, refl, ap, sym, subst, ◌∙◌, arith, length-append}
-use Rattle.std.specs.Option.{IfSome, option_map_or}
-use Rattle.std.specs.List.{cons_option}
-use Rattle.std.proofs.lemmas.Bool.{eqb-true, eqb-false, eq-eqb}
-use Rattle.scope_rules.specs.declared.types.capacity.Limits.{Limits}
-use Rattle.scope_rules.specs.declared.types.capacity.TheConstants.{TASK_LIMIT}
-use Rattle.scope_rules.specs.declared.types.answers.CauseKind.TheVariants.{Joiner}
-use Rattle.scope_rules.specs.declared.types.events.Event.TheVariants.{Finish}
-use Rattle.scope_rules.specs.declared.types.values.Completion.{Completion}
-use Rattle.scope_rules.specs.declared.types.records.Opening.{Opening}
-use Rattle.scope_rules.specs.declared.types.records.Forking.{Forking}
-use Rattle.scope_rules.specs.Ends.{EndValue}
-use Rattle.scope_rules.specs.Joining.{fires}
-use Rattle.scope_rules.specs.History.{History, followed, opening, forking}
-use Rattle.scope_rules.specs.Completions.{is_task_of, completions, completion_of}
-use Rattle.scope_rules.specs.Legal.{Legal, Accepts}
-use Rattle.scope_rules.proofs.Bound.{some_same}
-use Rattle.scope_rules.proofs.CompletionSteps.{completions_grow}
-use Rattle.scope_rules.proofs.Growing.{forking_stays}
-use Rattle.scope_rules.proofs.Nesting.{forked_opened}
-use Rattle.scope_rules.proofs.PassedRows.{finish_passed}
-use Rattle.scope_rules.proofs.Stages.{running_forked}
-use Rattle.join_rules.specs.Totals.{Totals, totals_of}
-use Rattle.join_rules.specs.JoinerStanding.{JoinerStanding, StandsFor, HasRoom}
-use Rattle.scope_rows.specs.Table.{scope_of}
-use Rattle.scope_rows.specs.Wants.{counts_of}
-use Rattle.scope_rows.proofs.Frames.{tallies_of}
-use Rattle.scope_rows.proofs.Keeping.{count_same}
-use Rattle.scope_rows.proofs.Places.{scope_of_is}
-use Rattle.scope_rows.proofs.WantsMet.{can_finish, counts_are}
-use Rattle.cancel_tree.specs.Rows.{IsLatest}
-use Rattle.scope_index.specs.CancelTables.{CancelTable, HasRow, HasCounted, account_at, cancelled}
-use Rattle.scope_index.specs.CancelsOf.{IsAccountOf, AreCancelsOf}
-use Rattle.scope_index.proofs.FinishSteps.{finished_next}
-use Rattle.scope_index.proofs.CancelReadings.{has_row}
-use Rattle.scope_index.specs.IndexTables.{IndexTable, IsIndexOf, HasRoomForEnds, forks_in, forks_of}
-use Rattle.scope_index.specs.Completing.{IsCompleted}
-use Rattle.scope_index.specs.Events.{IsReadyAt}
-use Rattle.scope_index.proofs.Balance.{MayComplete, may_complete}
-use Rattle.scope_index.proofs.Wanted.{latest}
+use Rattle.std.proofs.Common.{[], ℕ, ◌++◌, ◌+◌, ◌-◌, ◌<◌, ◌==◌, ◌∙◌, ◌∷◌, ◌≡◌, ◌≤◌, Bool, List, None, Option, Some, ap, arith, cond, eqb, false, length, length-append, refl, slice_get, subst, suc, sym, true, zero}
+use Rattle.scope_index.specs.{Accepts, AreCancelsOf, CancelTable, Completion, EndValue, Finish, Forking, HasCounted, HasRoom, HasRoomForEnds, HasRow, History, IfSome, IndexTable, IndexTables.forks_in, IsAccountOf, IsCompleted}
+use Rattle.scope_index.specs.{IsIndexOf, IsLatest, IsReadyAt, Joiner, JoinerStanding, Legal, Limits, Opening, StandsFor, TASK_LIMIT, Totals, account_at, cancelled, completion_of, completions, cons_option, counts_of, fires}
+use Rattle.scope_index.specs.{followed, forking, forks_of, is_task_of, opening, option_map_or, scope_of, totals_of}
+use Rattle.scope_index.proofs.Words.{can_finish, completions_grow, count_same, counts_are, eq-eqb, eqb-false, eqb-true, finish_passed, forked_opened, forking_stays, running_forked, scope_of_is, some_same, tallies_of}
+use Rattle.scope_index.proofs.{Balance.MayComplete, Balance.may_complete, CancelReadings.has_row, FinishSteps.finished_next, Wanted.latest}
 
 -- a task of scope s may end
 pub record EndsIn (h : History) (t : IndexTable) (k s : ℕ) : Type 0 where

@@ -1,24 +1,11 @@
 -- What each kind of event makes of the table.
-use Rattle.std.proofs.Common.{◌≡◌, ◌≢◌, slice_get, ℕ, ◌+◌, ◌-◌, ◌≤◌, ◌==◌, ◌||◌, Bool, true, false, cond, eqb, Option, Some, None, option_map, unwrap_or, length, refl, ap, sym, subst, ◌∙◌, arith}
-use Rattle.std.proofs.lemmas.Bool.{eqb-true, eqb-false, eq-eqb, ne_eqb}
-use Rattle.scope_rules.specs.declared.types.capacity.Limits.{Limits}
-use Rattle.scope_rules.specs.declared.types.events.Event.{Event}
-use Rattle.scope_rules.specs.declared.types.events.Event.TheVariants.{Fork, Reject, Start, Bind, Unbind, Join, EndClose}
-use Rattle.scope_rules.specs.History.{History, followed, moment, is_open, tick_of}
-use Rattle.scope_rules.specs.Scopes.{joined, joins}
-use Rattle.scope_rules.specs.Completions.{completion_of}
-use Rattle.scope_rules.specs.Cancels.{move_of, direct_kind, joiner_fires, deadline, counting_deadline}
-use Rattle.scope_rules.specs.Legal.{Legal}
-use Rattle.scope_rules.proofs.Prefixes.{option_or-none}
-use Rattle.scope_rules.proofs.Timed.{moment_grows, counting_grows}
-use Rattle.cancel_tree.specs.declared.rows.ScopeNode.{ScopeNode}
-use Rattle.cancel_tree.specs.Rows as rows
-use Rattle.cancel_tree.specs.Rows.{changed, cancel_at, with_own, with_deadline}
+use Rattle.std.proofs.Common.{ℕ, ◌+◌, ◌-◌, ◌==◌, ◌||◌, ◌∙◌, ◌≡◌, ◌≢◌, ◌≤◌, Bool, None, Option, Some, ap, arith, cond, eqb, false, length, option_map, refl, slice_get, subst, sym, true, unwrap_or}
 use Rattle.cancel_tree.proofs.RowLaws.{altered_length}
-use Rattle.scope_index.specs.CancelTables.{CancelTable, HasRow}
-use Rattle.scope_index.specs.CancelsOf.{IsNodeOf, AreCancelsOf}
-use Rattle.scope_index.proofs.RowSteps.{row_next, row_stays}
-use Rattle.scope_index.proofs.TableSteps.{HasStepped, table_next, accounts_stay, at_row, changed_rows}
+use Rattle.scope_index.specs.{AreCancelsOf, Bind, CancelTable, EndClose, Event, Fork, HasRow, History, IsNodeOf, Join, Legal, Limits, Reject, ScopeNode, Start, Unbind, cancel_at, changed, completion_of, counting_deadline}
+use Rattle.scope_index.specs.{deadline, direct_kind, followed, is_open, joined, joiner_fires, joins, moment, move_of, tick_of, with_deadline, with_own}
+use Rattle.scope_index.proofs.Words.{counting_grows, eq-eqb, eqb-false, eqb-true, moment_grows, ne_eqb, option_or-none}
+use Rattle.scope_index.proofs.{RowSteps.row_next, RowSteps.row_stays, TableSteps.HasStepped, TableSteps.accounts_stay, TableSteps.at_row, TableSteps.changed_rows, TableSteps.table_next}
+use Rattle.cancel_tree.specs.Rows as rows
 
 -- events that neither open nor cancel, move no deadline, and end no task
 abbrev pub leaves_cancels : Event → Bool

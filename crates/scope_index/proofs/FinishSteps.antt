@@ -1,34 +1,11 @@
 -- What the end of a task makes of the table.
-use Rattle.std.proofs.Common.{◌≡◌, ◌≢◌, slice_get, ℕ, ◌+◌, ◌-◌, ◌==◌, ◌&&◌, Bool, true, false, cond, eqb, Option, Some, None, option_map, [], ◌∷◌, ◌++◌, length, refl, ap, sym, subst, ◌∙◌, arith}
-use Rattle.std.specs.Option.{option_or, option_map_or}
-use Rattle.std.specs.List.{cons_option}
-use Rattle.std.proofs.lemmas.Bool.{eqb-true, eqb-false, eq-eqb, ne_eqb}
-use Rattle.scope_rules.specs.declared.types.capacity.Limits.{Limits}
-use Rattle.scope_rules.specs.declared.types.answers.CauseKind.TheVariants.{Joiner}
-use Rattle.scope_rules.specs.declared.types.events.Event.{Event}
-use Rattle.scope_rules.specs.declared.types.events.Event.TheVariants.{Finish}
-use Rattle.scope_rules.specs.declared.types.values.Completion.{Completion}
-use Rattle.scope_rules.specs.declared.types.records.Opening.{Opening}
-use Rattle.scope_rules.specs.declared.types.records.Forking.{Forking}
-use Rattle.scope_rules.specs.Ends.{EndValue}
-use Rattle.scope_rules.specs.Joining.{fires}
-use Rattle.scope_rules.specs.History.{History, followed, opening, forking, moment}
-use Rattle.scope_rules.specs.Completions.{is_task_of, completions, completion_of}
-use Rattle.scope_rules.specs.Cancels.{joiner_fires}
-use Rattle.scope_rules.specs.Legal.{Legal}
-use Rattle.scope_rules.proofs.Growing.{opening_stays, forking_stays}
-use Rattle.scope_rules.proofs.CompletionSteps.{completions_grow}
-use Rattle.cancel_tree.specs.declared.rows.ScopeNode.{ScopeNode}
+use Rattle.std.proofs.Common.{[], ℕ, ◌&&◌, ◌++◌, ◌+◌, ◌-◌, ◌==◌, ◌∙◌, ◌∷◌, ◌≡◌, ◌≢◌, Bool, None, Option, Some, ap, arith, cond, eqb, false, length, option_map, refl, slice_get, subst, sym, true}
+use Rattle.scope_index.specs.{AreCancelsOf, CancelTable, Completion, EndValue, Event, Finish, Forking, HasCounted, HasRow, History, IsAccountOf, IsCounted, IsNodeOf, Joiner, JoinerStanding, Legal, Limits, Opening, ScopeNode}
+use Rattle.scope_index.specs.{StandsFor, cancel_at, cancelled, changed, completion_of, completions, cons_option, fires, followed, forking, is_task_of, joiner_fires, moment, opening, option_map_or, option_or, with_own}
+use Rattle.scope_index.proofs.Words.{completions_grow, eq-eqb, eqb-false, eqb-true, forking_stays, ne_eqb, opening_stays, stands-push}
+use Rattle.scope_index.proofs.{EventSteps.at_row_by, EventSteps.map_id, EventSteps.moment_same, EventSteps.row_of_scope, EventSteps.stepped_at, OwnCancels.kind_told, RowSteps.counting_same, RowSteps.row_next, RowSteps.row_stays}
+use Rattle.scope_index.proofs.{TableSteps.account_stays, TableSteps.at_row, TableSteps.table_next}
 use Rattle.cancel_tree.specs.Rows as rows
-use Rattle.cancel_tree.specs.Rows.{changed, cancel_at, with_own}
-use Rattle.join_rules.specs.JoinerStanding.{JoinerStanding, StandsFor}
-use Rattle.join_rules.proofs.StandingLemmas.{stands-push}
-use Rattle.scope_index.specs.CancelTables.{CancelTable, HasRow, IsCounted, HasCounted, cancelled}
-use Rattle.scope_index.specs.CancelsOf.{IsNodeOf, IsAccountOf, AreCancelsOf}
-use Rattle.scope_index.proofs.OwnCancels.{kind_told}
-use Rattle.scope_index.proofs.RowSteps.{row_next, row_stays, counting_same}
-use Rattle.scope_index.proofs.TableSteps.{account_stays, table_next, at_row}
-use Rattle.scope_index.proofs.EventSteps.{row_of_scope, stepped_at, at_row_by, moment_same, map_id}
 
 -- a task of the scope is so after its end
 task_then : (h : History) (e : Event) (k s : ℕ) (f : Forking) → forking h k ≡ Some f → is_task_of (followed h e) s k ≡ (f.scope == s)

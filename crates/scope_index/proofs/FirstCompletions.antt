@@ -1,33 +1,10 @@
 -- The first completion that can be read is the first of all, if that one can be read: completions are
 -- readable up to the cancel, and unreadable after it.
-use Rattle.std.proofs.Common.{◌≡◌, ℕ, ◌&&◌, ◌||◌, Bool, true, false, cond, Option, Some, None, Ok, Err, [], refl, ap, sym, subst, ◌∙◌, inl}
-use Rattle.std.proofs.lemmas.Bool.{both_ways, eq-eqb, or_right}
-use Rattle.std.proofs.lemmas.List.Folds.{find-append}
-use Rattle.std.specs.Option.{option_and_then, option_or}
-use Rattle.std.specs.List.{find, cons_option}
-use Rattle.scope_rules.specs.declared.types.capacity.Limits.{Limits}
-use Rattle.scope_rules.specs.declared.types.answers.State.TheVariants.{Unavailable}
-use Rattle.scope_rules.specs.declared.types.events.Event.{Event}
-use Rattle.scope_rules.specs.declared.types.values.Completion.{Completion}
-use Rattle.scope_rules.specs.Ends.{EndValue}
-use Rattle.scope_rules.specs.Origin.{Origin}
-use Rattle.scope_rules.specs.Search.{earliest}
-use Rattle.scope_rules.specs.History.{History, followed}
-use Rattle.scope_rules.specs.Cancels.{is_cancelled}
-use Rattle.scope_rules.specs.Completions.{completion_of, completions}
-use Rattle.scope_rules.specs.Answers.{is_available}
-use Rattle.scope_rules.specs.Outcomes.{readable, first_read}
-use Rattle.scope_rules.specs.Tasks.{finishes, finished, state, state_by_end}
-use Rattle.scope_rules.specs.Legal.{Accepts, Legal}
-use Rattle.scope_rules.proofs.Forkings.{IsTask}
-use Rattle.scope_rules.proofs.Accepted.{running_task}
-use Rattle.scope_rules.proofs.CompletionSteps.{completions_grow}
-use Rattle.scope_rules.proofs.Growing.{forking_stays}
-use Rattle.scope_rules.proofs.OneEventMore.{finished_grows, along}
-use Rattle.scope_rules.proofs.PassedRows.{finish_passed}
-use Rattle.scope_rules.proofs.StateSteps.{state_ended}
-use Rattle.scope_index.proofs.Over.{cancelled_stays}
-use Rattle.scope_index.proofs.Readings.{completes_it, forked_earlier, ended_state, unreadable, first_grows}
+use Rattle.std.proofs.Common.{[], ℕ, ◌&&◌, ◌||◌, ◌∙◌, ◌≡◌, Bool, Err, None, Ok, Option, Some, ap, cond, false, inl, refl, subst, sym, true}
+use Rattle.scope_index.specs.{Accepts, Completion, EndValue, Event, History, Legal, Limits, Origin, Unavailable, completion_of, completions, cons_option, earliest, find, finished, finishes, first_read, followed, is_available}
+use Rattle.scope_index.specs.{is_cancelled, option_and_then, option_or, readable, state, state_by_end}
+use Rattle.scope_index.proofs.Words.{IsTask, along, both_ways, completions_grow, eq-eqb, find-append, finish_passed, finished_grows, forking_stays, or_right, running_task, state_ended}
+use Rattle.scope_index.proofs.{Over.cancelled_stays, Readings.completes_it, Readings.ended_state, Readings.first_grows, Readings.forked_earlier, Readings.unreadable}
 
 -- a completion of the scope: if it can't be read, the scope is cancelled
 record Completed (h : History) (s : ℕ) (d : Completion) : Type 0 where

@@ -1,23 +1,9 @@
 -- What is kept follows each event, part by part.
-use Rattle.std.proofs.Common.{◌≡◌, ℕ, ◌+◌, ◌≤◌, true, false, length, slice_get, ap, sym, subst, ◌∙◌, arith}
-use Rattle.scope_rules.specs.declared.types.capacity.Limits.{Limits}
-use Rattle.scope_rules.specs.declared.types.events.Event.{Event}
-use Rattle.scope_rules.specs.History.{History, followed}
-use Rattle.scope_rules.specs.Legal.{Legal, Accepts}
-use Rattle.scope_rows.specs.Agreement.{AreRowsOf}
-use Rattle.scope_rows.proofs.Keeping.{count_same}
-use Rattle.scope_index.specs.CancelTables.{CancelTable}
-use Rattle.scope_index.specs.CancelsOf.{AreCancelsOf}
-use Rattle.scope_index.proofs.EventSteps.{leaves_cancels, cancels_stay}
-use Rattle.scope_index.specs.ForksOf.{AreForksOf, moves_forks}
-use Rattle.scope_index.proofs.ForkSteps.{forks_stay}
-use Rattle.scoped_env.specs.Agreement.{AreEnvsOf, moves_envs}
-use Rattle.scoped_env.proofs.Steps.{envs_stay}
-use Rattle.scope_rows.specs.DeadlinesOf.{AreDeadlinesOf, moves_deadlines}
-use Rattle.scope_rows.proofs.DeadlineSteps.{deadlines_stay}
-use Rattle.scope_index.specs.IndexTables.{IndexTable, IsIndexOf, AreAlike, HasRoomForEnds, forks_in, forks_of}
-use Rattle.scope_index.specs.Events.{IsReadyFor, IsReadyAt, HasApplied, HasAppliedAt}
-use Rattle.scope_index.proofs.Alike.{alike}
+use Rattle.std.proofs.Common.{ℕ, ◌+◌, ◌∙◌, ◌≡◌, ◌≤◌, ap, arith, false, length, slice_get, subst, sym, true}
+use Rattle.scope_index.specs.{Accepts, AreAlike, AreCancelsOf, AreDeadlinesOf, AreEnvsOf, AreForksOf, AreRowsOf, CancelTable, Event, HasApplied, HasAppliedAt, HasRoomForEnds, History, IndexTable, IndexTables.forks_in, IsIndexOf}
+use Rattle.scope_index.specs.{IsReadyAt, IsReadyFor, Legal, Limits, followed, forks_of, moves_deadlines, moves_envs, moves_forks}
+use Rattle.scope_index.proofs.Words.{count_same, deadlines_stay, envs_stay}
+use Rattle.scope_index.proofs.{Alike.alike, EventSteps.cancels_stay, EventSteps.leaves_cancels, ForkSteps.forks_stay}
 
 -- parts of one history are alike
 pub kept_alike : (h : History) (t : IndexTable) → IsIndexOf h t → AreAlike t.rows t.cancels t.envs t.forks t.deadlines

@@ -1,31 +1,12 @@
 -- How what is kept of forks goes on by one event.
-use Rattle.std.proofs.Common.{◌≡◌, ℕ, ◌+◌, Bool, false, List, [], ◌∷◌, ◌++◌, length, get_or, refl, ap, sym, subst, ◌∙◌, arith, length-append, inl, inr}
-use Rattle.std.proofs.lemmas.Bool.{eq-eqb, ne_eqb}
-use Rattle.std.proofs.lemmas.List.{append-nil}
-use Rattle.std.specs.List.{filter}
-use Rattle.scope_rules.specs.declared.types.capacity.Limits.{Limits}
-use Rattle.scope_rules.specs.declared.types.events.Event.{Event}
-use Rattle.scope_rules.specs.declared.types.events.Event.TheVariants.{Open, Fork}
-use Rattle.scope_rules.specs.declared.types.events.Options.{Options}
-use Rattle.scope_rules.specs.declared.types.joiners.Policy.{Policy}
-use Rattle.scope_rules.specs.declared.types.values.Label.{Label}
-use Rattle.scope_rules.specs.Origin.{Origin}
-use Rattle.scope_rules.specs.History.{History, followed, scopes, tasks, task_numbers, is_open, is_fork}
-use Rattle.scope_rules.specs.Completions.{is_task_of}
-use Rattle.scope_rules.specs.Legal.{Legal}
-use Rattle.scope_rules.proofs.Innermosts.{opened_after}
-use Rattle.scope_rules.proofs.Nesting.{forked_opened}
-use Rattle.scope_rules.proofs.NewScopes.{HasNoTask, no_task_of}
-use Rattle.scope_rules.proofs.Owing.{count_push}
+use Rattle.std.proofs.Common.{[], ℕ, ◌++◌, ◌+◌, ◌∙◌, ◌∷◌, ◌≡◌, Bool, List, ap, arith, false, get_or, inl, inr, length, length-append, refl, subst, sym}
+use Rattle.scope_rows.proofs.Altering.{altered_length}
 use Rattle.scope_rows.specs.Steps.{altered}
-use Rattle.scope_rows.specs.Table.{place_of}
-use Rattle.scope_rows.proofs.Altering.{altered_length, altered_read, altered_here, altered_back, altered_split}
-use Rattle.scope_rows.proofs.Keeping.{count_same}
-use Rattle.scope_rows.proofs.Places.{entry_there, place_within, AreRight, right_pushed, right_altered}
-use Rattle.scope_index.specs.ForkTable.{ForkTable, ForkedTasks, HasForks, no_forks, forks_in, tasks_in, no_lists, with_open, with_forks, roomy, with_task}
-use Rattle.scope_index.specs.ForksOf.{AreForksOf, moves_forks}
-use Rattle.scope_rules.specs.Nests.{tasks_of}
-use Rattle.scope_index.proofs.TaskLists.{if_one, tasks_kept, tasks_forked}
+use Rattle.scope_index.specs.{AreForksOf, Event, Fork, ForkTable.ForkTable, ForkTable.forks_in, ForkedTasks, HasForks, History, Label, Legal, Limits, Open, Options, Origin, Policy, filter, followed, is_fork, is_open, is_task_of}
+use Rattle.scope_index.specs.{moves_forks, no_forks, no_lists, place_of, roomy, scopes, task_numbers, tasks, tasks_in, tasks_of, with_forks, with_open, with_task}
+use Rattle.scope_index.proofs.Words.{AreRight, HasNoTask, altered_back, altered_here, altered_read, altered_split, append-nil, count_push, count_same, entry_there, eq-eqb, forked_opened, ne_eqb, no_task_of, opened_after}
+use Rattle.scope_index.proofs.Words.{place_within, right_altered, right_pushed}
+use Rattle.scope_index.proofs.TaskLists.{if_one, tasks_forked, tasks_kept}
 
 -- ---- what is there
 

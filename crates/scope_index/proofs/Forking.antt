@@ -1,33 +1,10 @@
 -- What is kept if room is made for a fork, and after it.
-use Rattle.std.proofs.Common.{◌≡◌, ◌≢◌, ℕ, zero, suc, ◌+◌, ◌-◌, ◌≤◌, ◌<◌, ◌^◌, ◌==◌, Bool, true, false, cond, eqb, Some, None, length, slice_get, refl, ap, sym, subst, ◌∙◌, arith}
-use Rattle.std.proofs.lemmas.Bool.{eqb-true, eqb-false, eq-eqb, ne_eqb}
-use Rattle.scope_rules.specs.declared.types.capacity.Limits.{Limits}
-use Rattle.scope_rules.specs.declared.types.answers.Counts.{Counts}
-use Rattle.scope_rules.specs.declared.types.events.Event.TheVariants.{Fork}
-use Rattle.scope_rules.specs.declared.types.values.Label.{Label}
-use Rattle.scope_rules.specs.History.{History, followed, opening}
-use Rattle.scope_rules.specs.Tasks.{counts}
-use Rattle.scope_rules.specs.Legal.{Legal, Accepts}
-use Rattle.scope_rules.proofs.Nesting.{IsOpened}
-use Rattle.scope_rules.proofs.Owing.{count_push}
-use Rattle.scope_rules.proofs.PassedRows.{fork_passed}
-use Rattle.scope_rules.proofs.Pushing.{fork_number}
-use Rattle.scope_index.specs.ForkTable.{HasForks}
-use Rattle.scope_index.proofs.Held.{opened_has_forks}
-use Rattle.join_rules.specs.JoinerStanding.{JoinerStanding, StandsFor}
-use Rattle.scope_rows.specs.Table.{RowTable}
-use Rattle.scope_rows.specs.Agreement.{AreRowsOf}
-use Rattle.scope_rows.proofs.Frames.{tallies_of}
-use Rattle.scope_index.specs.CancelTables.{CancelTable, HasRow, HasReserved, account_at}
-use Rattle.scope_index.specs.CancelsOf.{IsNodeOf, IsAccountOf, AreCancelsOf}
+use Rattle.std.proofs.Common.{ℕ, ◌+◌, ◌-◌, ◌<◌, ◌==◌, ◌^◌, ◌∙◌, ◌≡◌, ◌≢◌, ◌≤◌, Bool, None, Some, ap, arith, cond, eqb, false, length, refl, slice_get, subst, suc, sym, true, zero}
+use Rattle.scope_index.specs.{Accepts, AreCancelsOf, AreRowsOf, CancelTable, Counts, Fork, HasEnv, HasForks, HasReserved, HasRoomForEnds, HasRoomToFork, HasRow, History, IndexTable, IndexTables.forks_in, IsAccountOf, IsNodeOf}
+use Rattle.scope_index.specs.{IsReadyFor, JoinerStanding, Label, Legal, Limits, RowTable, StandsFor, account_at, all_counts, counts, followed, forks_of, opening}
+use Rattle.scope_index.proofs.Words.{IsOpened, count_push, eq-eqb, eqb-false, eqb-true, fork_number, fork_passed, has_env_of_actor, ne_eqb, tallies_of}
+use Rattle.scope_index.proofs.{Balance.balanced, CancelReadings.has_row, Held.opened_has_forks, Opening.forks_opened}
 use Rattle.cancel_tree.specs.Rows as rows
-use Rattle.scope_index.proofs.CancelReadings.{has_row}
-use Rattle.scoped_env.specs.EnvTable.{HasEnv}
-use Rattle.scoped_env.proofs.Held.{has_env_of_actor}
-use Rattle.scope_index.specs.IndexTables.{IndexTable, HasRoomForEnds, HasRoomToFork, forks_in, forks_of, all_counts}
-use Rattle.scope_index.specs.Events.{IsReadyFor}
-use Rattle.scope_index.proofs.Balance.{balanced}
-use Rattle.scope_index.proofs.Opening.{forks_opened}
 
 -- ---- what a fork wants
 

@@ -1,24 +1,10 @@
 -- What a caller has, whose parts are kept of one history: rows, lists and the place of a join.
-use Rattle.std.proofs.Common.{◌≡◌, ℕ, true, is_some, Option, length, refl, ap, sym, subst, ◌∙◌, arith}
-use Rattle.std.specs.Option.{option_and_then, IsSome}
-use Rattle.scope_rules.specs.declared.types.capacity.Limits.{Limits}
-use Rattle.scope_rules.specs.History.{History}
-use Rattle.scope_rules.specs.Scopes.{joined}
-use Rattle.scope_rules.specs.Legal.{Legal}
-use Rattle.scope_rules.proofs.Nesting.{IsOpened}
-use Rattle.scope_rules.proofs.NewScopes.{joined_opened}
-use Rattle.scope_rows.specs.declared.records.ScopeRow.{ScopeRow}
-use Rattle.scope_rows.specs.Agreement.{AreRowsOf}
-use Rattle.scope_rows.specs.Table.{RowTable, HasScope, place_of}
+use Rattle.std.proofs.Common.{ℕ, ◌∙◌, ◌≡◌, Option, ap, arith, is_some, length, refl, subst, sym, true}
 use Rattle.scope_rows.proofs.Altering.{altered_length}
-use Rattle.scope_rows.proofs.Joinings.{joined_is_some}
-use Rattle.scope_rows.proofs.Places.{opened_numbered, scope_at, scope_row_is}
-use Rattle.scope_index.specs.CancelTables.{CancelTable, HasRow}
-use Rattle.scope_index.specs.CancelsOf.{AreCancelsOf}
+use Rattle.scope_index.specs.{AreCancelsOf, AreForksOf, AreRowsOf, CancelTable, ForkTable.ForkTable, ForkedTasks, HasForks, HasJoined, HasRow, HasScope, History, IsSome, Legal, Limits, RowTable, ScopeRow, joined, option_and_then}
+use Rattle.scope_index.specs.{place_of, with_forks}
+use Rattle.scope_index.proofs.Words.{IsOpened, joined_is_some, joined_opened, opened_numbered, scope_at, scope_row_is}
 use Rattle.scope_index.proofs.CancelReadings.{has_row}
-use Rattle.scope_index.specs.Answers.{HasJoined}
-use Rattle.scope_index.specs.ForkTable.{ForkTable, ForkedTasks, HasForks, with_forks}
-use Rattle.scope_index.specs.ForksOf.{AreForksOf}
 
 -- an opened scope has a list
 pub opened_has_forks : (h : History) (t : ForkTable) (s : ℕ) → AreForksOf h t → IsOpened h s → HasForks t s

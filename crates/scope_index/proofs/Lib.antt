@@ -36,3 +36,4 @@ pub mod OutcomesTold
 pub mod ForkSteps
 pub mod Lists
 pub mod Held
+mod Words

@@ -1,11 +1,7 @@
 -- The list of values that a join answers, one task more.
-use Rattle.std.proofs.Common.{◌≡◌, ℕ, ◌+◌, ◌<◌, Option, List, [], ◌++◌, length, get_or, take, ap, sym, ◌∙◌}
-use Rattle.std.specs.List.{cons_option}
-use Rattle.std.proofs.lemmas.List.{take_more}
-use Rattle.scope_rules.specs.declared.types.answers.State.{State}
-use Rattle.scope_rules.specs.declared.types.outcomes.TaskValue.{TaskValue}
-use Rattle.scope_rules.specs.Answers.{value_in, values_by}
-use Rattle.scope_rules.proofs.Completions.{filter_map-push}
+use Rattle.std.proofs.Common.{[], ℕ, ◌++◌, ◌+◌, ◌<◌, ◌∙◌, ◌≡◌, List, Option, ap, get_or, length, sym, take}
+use Rattle.scope_index.specs.{State, TaskValue, cons_option, value_in, values_by}
+use Rattle.scope_index.proofs.Words.{filter_map-push, take_more}
 
 -- the value of the next task follows those so far, if it succeeded
 values_more : (x : ℕ → State) (ks : List ℕ) (i : ℕ) → i < length ks → values_by x (take (i + 1) ks) ≡ values_by x (take i ks) ++ cons_option (value_in (get_or ks i 0) (x (get_or ks i 0))) []

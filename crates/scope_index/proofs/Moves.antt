@@ -1,13 +1,9 @@
 -- A move of a deadline: taken away, still to come, or passed.
-use Rattle.std.proofs.Common.{◌≡◌, ℕ, zero, suc, ◌-◌, ◌<◌, ◌≤◌, false, cond, nat_le, Option, Some, None, List, [], ◌∷◌, length, refl, ap, sym, subst, ◌∙◌, arith}
-use Rattle.std.proofs.lemmas.Bool.{le-leb, lt-leb}
-use Rattle.scope_rules.specs.declared.types.answers.CauseKind.TheVariants.{Deadline}
-use Rattle.cancel_tree.specs.declared.rows.ScopeNode.{ScopeNode}
+use Rattle.std.proofs.Common.{[], ℕ, ◌-◌, ◌<◌, ◌∙◌, ◌∷◌, ◌≡◌, ◌≤◌, List, None, Option, Some, ap, arith, cond, false, length, nat_le, refl, subst, suc, sym, zero}
 use Rattle.cancel_tree.proofs.RowLaws.{altered_length}
-use Rattle.cancel_tree.proofs.LatestLaws.{latest_deadline}
-use Rattle.cancel_tree.specs.Rows.{IsLatest, altered, changed, cancel_at, with_own, with_deadline}
-use Rattle.scope_index.specs.CancelTables.{CancelTable, HasRow, deadlined, cancelled}
-use Rattle.scope_index.specs.CancelsOf.{IsMoved}
+use Rattle.cancel_tree.specs.Rows.{altered}
+use Rattle.scope_index.specs.{CancelTable, Deadline, HasRow, IsLatest, IsMoved, ScopeNode, cancel_at, cancelled, changed, deadlined, with_deadline, with_own}
+use Rattle.scope_index.proofs.Words.{latest_deadline, le-leb, lt-leb}
 use Rattle.scope_index.proofs.CancelSteps.{moved_next}
 
 altered_twice : (f g : ScopeNode → ScopeNode) (ts : List ScopeNode) (i : ℕ) → altered g (altered f ts i) i ≡ altered (λ t. g (f t)) ts i

@@ -1,9 +1,7 @@
 -- A scope that was never opened is not cancelled.
-use Rattle.std.proofs.Common.{◌≡◌, ℕ, false, is_some, None, refl, ap}
-use Rattle.scope_rules.specs.History.{History, opening}
-use Rattle.scope_rules.specs.Cancels.{first_cancel, is_cancelled}
-use Rattle.scope_rules.proofs.Nesting.{IsOpened}
-use Rattle.scope_rules.proofs.Staying.{cancel_opened}
+use Rattle.std.proofs.Common.{ℕ, ◌≡◌, None, ap, false, is_some, refl}
+use Rattle.scope_index.specs.{History, first_cancel, is_cancelled, opening}
+use Rattle.scope_index.proofs.Words.{IsOpened, cancel_opened}
 use Rattle.scope_index.proofs.OpenSteps.{none_by}
 
 pub never : (h : History) (s : ℕ) → opening h s ≡ None → IsOpened h s → ⊥

@@ -1,44 +1,13 @@
 -- What an open makes of the table.
-use Rattle.std.proofs.Common.{◌≡◌, inl, inr, slice_get, ℕ, zero, suc, ◌+◌, ◌||◌, Bool, true, false, cond, Option, Some, None, option_map, [], ◌∷◌, ◌++◌, length, refl, ap, sym, subst, ◌∙◌, arith, length-append}
-use Rattle.std.specs.Option.{option_or, option_map_or, option_and_then}
-use Rattle.scope_rules.specs.declared.types.capacity.Limits.{Limits}
-use Rattle.scope_rules.specs.declared.types.answers.CauseKind.TheVariants.{Deadline}
-use Rattle.scope_rules.specs.declared.types.events.Event.{Event}
-use Rattle.scope_rules.specs.declared.types.events.Event.TheVariants.{Open}
-use Rattle.scope_rules.specs.declared.types.events.Options.{Options}
-use Rattle.scope_rules.specs.declared.types.joiners.Policy.{Policy}
-use Rattle.scope_rules.specs.declared.types.records.Opening.{Opening}
-use Rattle.scope_rules.specs.declared.types.records.OwnCancel.{OwnCancel}
-use Rattle.scope_rules.specs.declared.types.records.FirstCancel.{FirstCancel}
-use Rattle.scope_rules.specs.Chains.{shifted}
-use Rattle.scope_rules.specs.Search.{last_of}
-use Rattle.scope_rules.specs.History.{History, before, followed, opening, forking, scopes, opened_count, moment, is_open}
-use Rattle.scope_rules.specs.Scopes.{joined, surrounding}
+use Rattle.std.proofs.Common.{[], ℕ, ◌++◌, ◌+◌, ◌||◌, ◌∙◌, ◌∷◌, ◌≡◌, Bool, None, Option, Some, ap, arith, cond, false, inl, inr, length, length-append, option_map, refl, slice_get, subst, suc, sym, true, zero}
+use Rattle.scope_index.specs.{AreCancelsOf, CancelTable, Deadline, Event, FirstCancel, History, IsAccountOf, IsNodeOf, JoinerStanding, Legal, Limits, Open, Opening, Options, OwnCancel, Policy, ScopeNode, StandsFor, before}
+use Rattle.scope_index.specs.{cancel_at, completions, counting_deadline, deadline, followed, forking, is_open, is_past, joined, joiner_fires, last_of, moment, move_of, opened_count, opening, option_and_then, option_map_or}
+use Rattle.scope_index.specs.{option_or, own, own_cancel, scopes, shifted, surrounding}
+use Rattle.scope_index.proofs.Words.{HasNoTask, IsOpened, before_last, count_push, forked_opened, forking_same, joined_grows, joined_opened, last_of-push, moved_opened, next_opening, no_completions, own_unopened, push_cases}
+use Rattle.scope_index.proofs.Words.{scope_given}
+use Rattle.scope_index.proofs.{EventSteps.moment_same, OwnCancels.own_cancel_next, RowSteps.row_stays, TableSteps.account_stays}
 use Rattle.scope_rules.specs.Scopes as rules
-use Rattle.scope_rules.specs.Completions.{completions}
-use Rattle.scope_rules.specs.Cancels.{own, own_cancel, move_of, deadline, counting_deadline, joiner_fires}
-use Rattle.scope_rules.specs.Legal.{Legal}
-use Rattle.scope_rules.proofs.Pushing.{before_last}
-use Rattle.scope_rules.proofs.Earlier.{scope_given}
-use Rattle.scope_rules.proofs.Nesting.{IsOpened, forked_opened}
-use Rattle.scope_rules.proofs.Staying.{own_unopened}
-use Rattle.scope_rules.proofs.Owing.{count_push}
-use Rattle.scope_rules.proofs.Prefixes.{last_of-push}
-use Rattle.scope_rules.proofs.OneEventMore.{joined_grows, forking_same}
-use Rattle.scope_rules.proofs.InnermostSteps.{next_opening}
-use Rattle.scope_rules.proofs.NewScopes.{joined_opened, moved_opened, no_completions, HasNoTask}
-use Rattle.deadline_core.specs.Moments.{is_past}
-use Rattle.cancel_tree.specs.declared.rows.ScopeNode.{ScopeNode}
 use Rattle.cancel_tree.specs.Rows as rows
-use Rattle.cancel_tree.specs.Rows.{cancel_at}
-use Rattle.cancel_tree.proofs.AddLaws.{push_cases}
-use Rattle.join_rules.specs.JoinerStanding.{JoinerStanding, StandsFor}
-use Rattle.scope_index.specs.CancelTables.{CancelTable}
-use Rattle.scope_index.specs.CancelsOf.{IsNodeOf, IsAccountOf, AreCancelsOf}
-use Rattle.scope_index.proofs.OwnCancels.{own_cancel_next}
-use Rattle.scope_index.proofs.RowSteps.{row_stays}
-use Rattle.scope_index.proofs.TableSteps.{account_stays}
-use Rattle.scope_index.proofs.EventSteps.{moment_same}
 
 -- the row of a scope that is opened: with its own cancel, if its deadline has passed
 abbrev pub opened_row : ℕ → ℕ → ℕ → Option ℕ → Options → ScopeNode

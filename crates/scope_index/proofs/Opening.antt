@@ -1,26 +1,8 @@
 -- What is kept after a scope is opened.
-use Rattle.std.proofs.Common.{◌≡◌, ℕ, zero, suc, ◌+◌, ◌≤◌, Bool, true, false, length, slice_get, Result, Ok, Err, refl, ap, sym, subst, ◌∙◌, arith, inl, inr}
-use Rattle.std.specs.Result.{OnErr}
-use Rattle.std.proofs.lemmas.Bool.{eqb-true}
-use Rattle.scope_rules.specs.declared.types.capacity.Limits.{Limits}
-use Rattle.scope_rules.specs.declared.types.events.Event.{Event}
-use Rattle.scope_rules.specs.declared.types.events.Event.TheVariants.{Open, Fork}
-use Rattle.scope_rules.specs.declared.types.joiners.Policy.{Policy}
-use Rattle.scope_rules.specs.declared.types.events.Options.{Options}
-use Rattle.scope_rules.specs.History.{History, followed, scopes}
-use Rattle.scope_rules.specs.Legal.{Legal, Accepts}
-use Rattle.scope_rules.proofs.Growing.{opening_stays}
-use Rattle.scope_rules.proofs.Nesting.{IsOpened}
-use Rattle.scope_rules.proofs.OneEventMore.{along}
-use Rattle.scope_rules.proofs.PassedRows.{fork_passed}
-use Rattle.scope_rows.proofs.Keeping.{count_same}
-use Rattle.scope_rows.proofs.Unopened.{next_unopened}
-use Rattle.scope_index.specs.CancelTables.{CancelTable, AreOneMore}
-use Rattle.scope_index.specs.CancelsOf.{AreCancelsOf}
-use Rattle.scoped_env.proofs.ListSteps.{get_of_push}
-use Rattle.scope_index.specs.ForkTable.{ForkTable}
-use Rattle.scope_index.specs.ForksOf.{AreForksOf}
-use Rattle.scope_index.specs.IndexTables.{HasRoomForEnds, forks_in, forks_of}
+use Rattle.std.proofs.Common.{ℕ, ◌+◌, ◌∙◌, ◌≡◌, ◌≤◌, Bool, Err, Ok, Result, ap, arith, false, inl, inr, length, refl, slice_get, subst, suc, sym, true, zero}
+use Rattle.scope_index.specs.{Accepts, AreCancelsOf, AreForksOf, AreOneMore, CancelTable, Event, Fork, ForkTable.ForkTable, HasRoomForEnds, History, IndexTables.forks_in, Legal, Limits, OnErr, Open, Options, Policy, followed}
+use Rattle.scope_index.specs.{forks_of, scopes}
+use Rattle.scope_index.proofs.Words.{IsOpened, along, count_same, eqb-true, fork_passed, get_of_push, next_unopened, opening_stays}
 
 -- an accepted fork is in an opened scope
 fork_opened : (L : Limits) (h : History) (e : Event) (s : ℕ) → Accepts L h e → forks_in s e ≡ true → IsOpened h s

@@ -1,18 +1,10 @@
 -- A scope that is opened: without a deadline, with one that is still to come, or with one that has passed.
-use Rattle.std.proofs.Common.{◌≡◌, ℕ, ◌+◌, ◌-◌, ◌≤◌, ◌<◌, Bool, true, cond, Option, Some, None, option_map, List, [], ◌∷◌, ◌++◌, length, length-append, refl, ap, sym, subst, ◌∙◌, arith}
-use Rattle.std.specs.Option.{IfSome}
-use Rattle.std.proofs.lemmas.Bool.{le-leb, lt-leb}
-use Rattle.scope_rules.specs.declared.types.answers.CauseKind.TheVariants.{Deadline}
-use Rattle.scope_rules.specs.declared.types.events.Options.{Options}
-use Rattle.scope_rules.specs.declared.types.joiners.Policy.{Policy}
-use Rattle.cancel_tree.specs.declared.rows.ScopeNode.{ScopeNode}
-use Rattle.cancel_tree.specs.Rows.{IsAdded, IsLatest, altered, changed, new_row, cancel_at, with_own, with_deadline}
-use Rattle.cancel_tree.proofs.LatestLaws.{latest_add}
-use Rattle.join_rules.specs.JoinerStanding.{JoinerStanding, StandsFor}
-use Rattle.deadline_core.specs.Moments.{is_past}
-use Rattle.scope_index.specs.CancelTables.{CancelTable, HasRow, with_scope, deadlined, cancelled}
-use Rattle.scope_index.specs.CancelsOf.{IsOpened}
-use Rattle.scope_index.proofs.OpenSteps.{opened_row, opened_next}
+use Rattle.std.proofs.Common.{[], ℕ, ◌++◌, ◌+◌, ◌-◌, ◌<◌, ◌∙◌, ◌∷◌, ◌≡◌, ◌≤◌, Bool, List, None, Option, Some, ap, arith, cond, length, length-append, option_map, refl, subst, sym, true}
+use Rattle.cancel_tree.specs.Rows.{altered}
+use Rattle.scope_index.specs.{CancelTable, Deadline, HasRow, IfSome, IsAdded, IsLatest, IsOpened, JoinerStanding, Options, Policy, ScopeNode, StandsFor, cancel_at, cancelled, changed, deadlined, is_past, new_row, with_deadline}
+use Rattle.scope_index.specs.{with_own, with_scope}
+use Rattle.scope_index.proofs.Words.{latest_add, le-leb, lt-leb}
+use Rattle.scope_index.proofs.OpenSteps.{opened_next, opened_row}
 
 altered_last : (f : ScopeNode → ScopeNode) (ts : List ScopeNode) (t : ScopeNode) → altered f (ts ++ t ∷ []) (length ts) ≡ ts ++ f t ∷ []
 altered_last f [] t = refl

@@ -1,41 +1,10 @@
 -- What is kept of a joined scope says what its join answered.
-use Rattle.std.proofs.Common.{◌≡◌, ℕ, ◌+◌, ◌-◌, Bool, true, cond, Option, Some, None, Result, Ok, Err, option_map, List, refl, ap, sym, subst, ◌∙◌, arith}
-use Rattle.std.specs.Option.{option_and_then, option_map_or}
-use Rattle.std.specs.Result.{IfOk}
-use Rattle.std.specs.List.{find}
-use Rattle.scope_rules.specs.declared.types.capacity.Limits.{Limits}
-use Rattle.scope_rules.specs.declared.types.answers.Cause.{Cause}
-use Rattle.scope_rules.specs.declared.types.answers.State.TheVariants.{Unavailable}
-use Rattle.scope_rules.specs.declared.types.outcomes.Outcome.{Outcome}
-use Rattle.scope_rules.specs.declared.types.records.FirstCancel.{FirstCancel}
-use Rattle.scope_rules.specs.declared.types.values.Completion.{Completion}
-use Rattle.scope_rules.specs.History.{History, before, opening, forking, task_numbers}
-use Rattle.scope_rules.specs.Cancels.{first_cancel, cause}
-use Rattle.scope_rules.specs.Completions.{is_task_of, completions}
-use Rattle.scope_rules.specs.Joining.{has_failed, has_succeeded}
-use Rattle.scope_rules.specs.Answers.{is_available, values_by, listing_by, answer_of}
-use Rattle.scope_rules.specs.Outcomes.{first_read, readable_of, outcome_of, joining, outcome}
-use Rattle.scope_rules.specs.Tasks.{state}
-use Rattle.scope_rules.specs.Legal.{Legal}
-use Rattle.scope_rules.proofs.OneEventMore.{forking_later}
-use Rattle.scope_rules.proofs.TaskLists.{values_same, listing_same}
-use Rattle.scope_rows.specs.declared.records.ScopeRow.{ScopeRow}
-use Rattle.scope_rows.specs.declared.records.TaskRow.{TaskRow}
-use Rattle.scope_rows.specs.Table.{RowTable, scope_row, task_row}
-use Rattle.scope_rows.specs.Agreement.{AreRowsOf}
-use Rattle.scope_rows.proofs.Reading.{scope_row_says, task_row_says, task_row_none}
-use Rattle.join_rules.specs.JoinerStanding.{JoinerStanding, StandsFor}
-use Rattle.join_rules.proofs.StandingLemmas.{are_listed}
-use Rattle.scope_index.specs.CancelTables.{CancelTable, HasRow, account_at}
-use Rattle.scope_index.specs.CancelsOf.{AreCancelsOf, IsAccountOf}
-use Rattle.scope_index.specs.ForkTable.{ForkTable}
-use Rattle.scope_index.specs.ForksOf.{AreForksOf}
-use Rattle.scope_rules.specs.Nests.{tasks_of}
-use Rattle.scope_index.specs.Answers.{cause_before, state_in, readable_in, readable_by}
-use Rattle.scope_index.proofs.AtJoin.{IsLike, join_at, join_wants, like_at_join}
-use Rattle.scope_index.proofs.CancelsBefore.{cause_at}
-use Rattle.scope_index.proofs.FirstCompletions.{where_read, first_by_completions}
-use Rattle.scope_rules.proofs.Forkings.{task_there}
+use Rattle.std.proofs.Common.{ℕ, ◌+◌, ◌-◌, ◌∙◌, ◌≡◌, Bool, Err, List, None, Ok, Option, Result, Some, ap, arith, cond, option_map, refl, subst, sym, true}
+use Rattle.scope_index.specs.{AreCancelsOf, AreForksOf, AreRowsOf, CancelTable, Cause, Completion, FirstCancel, ForkTable.ForkTable, HasRow, History, IfOk, IsAccountOf, JoinerStanding, Legal, Limits, Outcome, RowTable, ScopeRow}
+use Rattle.scope_index.specs.{StandsFor, TaskRow, Unavailable, account_at, answer_of, before, cause, cause_before, completions, find, first_cancel, first_read, forking, has_failed, has_succeeded, is_available, is_task_of, joining}
+use Rattle.scope_index.specs.{listing_by, opening, option_and_then, option_map_or, outcome, outcome_of, readable_by, readable_in, readable_of, scope_row, state, state_in, task_numbers, task_row, tasks_of, values_by}
+use Rattle.scope_index.proofs.Words.{are_listed, forking_later, listing_same, scope_row_says, task_row_none, task_row_says, task_there, values_same}
+use Rattle.scope_index.proofs.{AtJoin.IsLike, AtJoin.join_at, AtJoin.join_wants, AtJoin.like_at_join, CancelsBefore.cause_at, FirstCompletions.first_by_completions, FirstCompletions.where_read}
 
 -- ---- the rows' states
 

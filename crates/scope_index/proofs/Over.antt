@@ -1,27 +1,9 @@
 -- If a scope is cancelled or none of its tasks waits or runs, no end is read that could not be before.
-use Rattle.std.proofs.Common.{◌≡◌, ℕ, ◌==◌, Bool, true, false, cond, is_some, Option, Some, None, length, refl, ap, sym, subst, ◌∙◌, inl, inr, ◌⊎◌}
-use Rattle.std.proofs.lemmas.Bool.{both_ways, eqb-true, eq-eqb, or_cases}
-use Rattle.scope_rules.specs.declared.types.capacity.Limits.{Limits}
-use Rattle.scope_rules.specs.declared.types.answers.State.TheVariants.{Unavailable}
-use Rattle.scope_rules.specs.declared.types.events.Event.{Event}
-use Rattle.scope_rules.specs.declared.types.events.Event.TheVariants.{Fork, Finish}
-use Rattle.scope_rules.specs.declared.types.records.FirstCancel.{FirstCancel}
-use Rattle.scope_rules.specs.declared.types.records.Ending.{Ending}
-use Rattle.scope_rules.specs.declared.types.records.Forking.{Forking}
-use Rattle.scope_rules.specs.Ends.{EndValue}
-use Rattle.std.specs.Option.{option_map_or}
-use Rattle.scope_rules.specs.History.{History, followed, forking, forking_of}
-use Rattle.scope_rules.specs.Cancels.{first_cancel, is_cancelled}
-use Rattle.scope_rules.specs.Tasks.{stage, is_settled, state, state_of, state_by_end, settled, ready}
-use Rattle.scope_rules.specs.Legal.{Accepts, Legal}
-use Rattle.scope_rules.proofs.Accepted.{running_task}
-use Rattle.scope_rules.proofs.Earlier.{forking_shown}
-use Rattle.scope_rules.proofs.OneEventMore.{forking_split}
-use Rattle.scope_rules.proofs.PassedRows.{finish_passed}
-use Rattle.scope_rules.proofs.SettledTasks.{settled_task}
-use Rattle.scope_rules.proofs.Stages.{settled_stays, running_unsettled}
-use Rattle.scope_rules.proofs.StateSteps.{state_is, no_ending, state_ended, state_stays}
-use Rattle.scope_rules.proofs.Staying.{cancel_stays}
+use Rattle.std.proofs.Common.{ℕ, ◌==◌, ◌∙◌, ◌≡◌, ◌⊎◌, Bool, None, Option, Some, ap, cond, false, inl, inr, is_some, length, refl, subst, sym, true}
+use Rattle.scope_index.specs.{Accepts, EndValue, Ending, Event, Finish, FirstCancel, Fork, Forking, History, Legal, Limits, Unavailable, first_cancel, followed, forking, forking_of, is_cancelled, is_settled, option_map_or, ready}
+use Rattle.scope_index.specs.{settled, stage, state, state_by_end, state_of}
+use Rattle.scope_index.proofs.Words.{both_ways, cancel_stays, eq-eqb, eqb-true, finish_passed, forking_shown, forking_split, no_ending, or_cases, running_task, running_unsettled, settled_stays, settled_task, state_ended, state_is}
+use Rattle.scope_index.proofs.Words.{state_stays}
 
 -- the event forks a task in scope s
 abbrev pub forks_for : ℕ → Event → Bool

@@ -1,23 +1,8 @@
 -- The own cancel that one event more gives a scope, by its kind and the deadline that counts.
-use Rattle.std.proofs.Common.{◌≡◌, ℕ, ◌&&◌, Bool, true, false, cond, not, is_some, nat_le, Option, Some, None, option_map, [], length, refl, ap, ◌∙◌}
-use Rattle.std.specs.Option.{option_or, option_map_or}
-use Rattle.scope_rules.specs.declared.types.capacity.Limits.{Limits}
-use Rattle.scope_rules.specs.declared.types.answers.CauseKind.{CauseKind}
-use Rattle.scope_rules.specs.declared.types.answers.CauseKind.TheVariants.{Joiner, Deadline}
-use Rattle.scope_rules.specs.declared.types.events.Event.{Event}
-use Rattle.scope_rules.specs.declared.types.records.Opening.{Opening}
-use Rattle.scope_rules.specs.declared.types.records.OwnCancel.{OwnCancel}
-use Rattle.scope_rules.specs.declared.types.records.FirstCancel.{FirstCancel}
-use Rattle.scope_rules.specs.Origin.{Origin}
-use Rattle.scope_rules.specs.Search.{earliest}
-use Rattle.scope_rules.specs.History.{History, followed, opening, moment}
-use Rattle.scope_rules.specs.Scopes.{joined}
-use Rattle.scope_rules.specs.Cancels.{direct_kind, joiner_fires, overdue, own, own_cancel, deadline, counting_deadline}
-use Rattle.scope_rules.specs.Legal.{Legal}
-use Rattle.scope_rules.proofs.OneEventMore.{along}
-use Rattle.scope_rules.proofs.OwnSteps.{kind_next, own_from, own_next}
-use Rattle.deadline_core.specs.Moments.{is_past}
-use Rattle.cancel_tree.specs.Rows.{cancel_at}
+use Rattle.std.proofs.Common.{[], ℕ, ◌&&◌, ◌∙◌, ◌≡◌, Bool, None, Option, Some, ap, cond, false, is_some, length, nat_le, not, option_map, refl, true}
+use Rattle.scope_index.specs.{CauseKind, Deadline, Event, FirstCancel, History, Joiner, Legal, Limits, Opening, Origin, OwnCancel, cancel_at, counting_deadline, deadline, direct_kind, earliest, followed, is_past, joined}
+use Rattle.scope_index.specs.{joiner_fires, moment, opening, option_map_or, option_or, overdue, own, own_cancel}
+use Rattle.scope_index.proofs.Words.{along, kind_next, own_from, own_next}
 
 -- a cancel by the event itself, by the joiner, or by the deadline, whichever comes first
 abbrev pub kind_told : Option CauseKind → Bool → ℕ → Option ℕ → Option CauseKind

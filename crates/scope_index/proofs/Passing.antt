@@ -1,24 +1,12 @@
 -- A tick takes the deadlines that it passes out of the index, one by one, and cancels their scopes.
-use Rattle.std.proofs.Common.{◌≡◌, ◌⊎◌, inl, inr, ℕ, zero, suc, slice_get, ◌-◌, ◌≤◌, ◌<◌, ◌&&◌, Bool, true, false, cond, not, eqb, nat_lt, Option, Some, None, option_map, is_some, List, length, refl, ap, sym, subst, ◌∙◌, arith}
-use Rattle.std.specs.Option.{option_and_then}
-use Rattle.std.specs.Ordering.{nat_cmp}
-use Rattle.std.specs.Cmp.{nat_cmp_total}
-use Rattle.std.specs.FinMap as map
-use Rattle.std.proofs.lemmas.Bool.{eqb-true, eq-eqb, le-ltb, le-leb, leb-true, leb-false, ltb-true, ltb-false}
-use Rattle.std.proofs.lemmas.Option.{slice_get_within}
-use Rattle.scope_rules.specs.declared.types.answers.CauseKind.TheVariants.{Deadline}
-use Rattle.scope_rules.specs.declared.types.records.FirstCancel.{FirstCancel}
-use Rattle.deadline_core.specs.Moments.{Moments, is_past, is_due, IsFirstDue}
-use Rattle.cancel_tree.specs.declared.rows.ScopeNode.{ScopeNode}
-use Rattle.cancel_tree.specs.Rows as rows
-use Rattle.cancel_tree.specs.Rows.{IsAdded, IsLatest, changed, cancel_at, with_own}
+use Rattle.std.proofs.Common.{ℕ, ◌&&◌, ◌-◌, ◌<◌, ◌∙◌, ◌≡◌, ◌≤◌, ◌⊎◌, Bool, List, None, Option, Some, ap, arith, cond, eqb, false, inl, inr, is_some, length, nat_lt, not, option_map, refl, slice_get, subst, suc, sym, true, zero}
 use Rattle.cancel_tree.proofs.RowLaws.{altered_length}
-use Rattle.cancel_tree.proofs.LatestLaws.{latest_cancel}
-use Rattle.join_rules.specs.JoinerStanding.{JoinerStanding}
-use Rattle.scope_index.specs.CancelTables.{AreKept, awaited, awaited_of, to_come}
-use Rattle.scope_index.proofs.CancelsKept.{cancelled_awaits, tied}
-use Rattle.scope_index.proofs.CancelSteps.{ticked}
-use Rattle.scope_index.proofs.TableSteps.{changed_rows, at_row}
+use Rattle.scope_index.specs.{AreKept, Deadline, FirstCancel, IsAdded, IsFirstDue, IsLatest, JoinerStanding, Moments, ScopeNode, awaited, awaited_of, cancel_at, changed, is_due, is_past, nat_cmp, nat_cmp_total, option_and_then}
+use Rattle.scope_index.specs.{to_come, with_own}
+use Rattle.scope_index.proofs.Words.{eq-eqb, eqb-true, latest_cancel, le-leb, le-ltb, leb-false, leb-true, ltb-false, ltb-true, slice_get_within}
+use Rattle.scope_index.proofs.{CancelSteps.ticked, CancelsKept.cancelled_awaits, CancelsKept.tied, TableSteps.at_row, TableSteps.changed_rows}
+use Rattle.std.specs.FinMap as map
+use Rattle.cancel_tree.specs.Rows as rows
 
 -- the row's deadline has passed, and was taken out of the index
 abbrev pub is_taken : ℕ → Moments → Moments → ℕ → Bool

@@ -1,30 +1,9 @@
 -- What the first completion that can be read goes by, one event more.
-use Rattle.std.proofs.Common.{◌≡◌, ℕ, zero, suc, ◌<◌, ◌==◌, ◌&&◌, Bool, true, false, cond, Option, Some, None, List, [], ◌∷◌, ◌++◌, length, slice_get, refl, ap, sym, subst, ◌∙◌, arith, length-append}
-use Rattle.std.proofs.lemmas.Bool.{both_ways, eq-eqb, and_right, or_left, or_right, false_from_ne_true}
-use Rattle.std.specs.Option.{option_and_then, option_or, option_map_or}
-use Rattle.std.specs.List.{list_any}
-use Rattle.scope_rules.specs.declared.types.capacity.Limits.{Limits}
-use Rattle.scope_rules.specs.declared.types.events.Event.{Event}
-use Rattle.scope_rules.specs.declared.types.events.Event.TheVariants.{Finish}
-use Rattle.scope_rules.specs.declared.types.records.Forking.{Forking}
-use Rattle.scope_rules.specs.declared.types.values.Completion.{Completion}
-use Rattle.scope_rules.specs.Search.{earliest}
-use Rattle.scope_rules.specs.History.{History, before, followed, forking}
-use Rattle.scope_rules.specs.Completions.{is_task_of, completion_of}
-use Rattle.scope_rules.specs.Answers.{is_available}
-use Rattle.scope_rules.specs.Outcomes.{readable, readable_at, first_read}
-use Rattle.scope_rules.specs.Tasks.{finishes, finished, ending_of, state}
-use Rattle.scope_rules.specs.Legal.{Accepts, Legal}
-use Rattle.scope_rules.proofs.Accepted.{entry_at, running_task}
-use Rattle.scope_rules.proofs.CompletionSteps.{is_task_stays}
-use Rattle.scope_rules.proofs.Earlier.{forking_since}
-use Rattle.scope_rules.proofs.Forkings.{IsTask, task_there}
-use Rattle.scope_rules.proofs.OneEventMore.{last_event, forking_same}
-use Rattle.scope_rules.proofs.PassedRows.{finish_passed, finisher_passed}
-use Rattle.scope_rules.proofs.Prefixes.{get_push, option_or-none}
-use Rattle.scope_rules.proofs.Searching.{earliest_same}
-use Rattle.scope_rules.proofs.Stages.{running_forked}
-use Rattle.scope_rules.proofs.StateSteps.{state_stays}
+use Rattle.std.proofs.Common.{[], ℕ, ◌&&◌, ◌++◌, ◌<◌, ◌==◌, ◌∙◌, ◌∷◌, ◌≡◌, Bool, List, None, Option, Some, ap, arith, cond, false, length, length-append, refl, slice_get, subst, suc, sym, true, zero}
+use Rattle.scope_index.specs.{Accepts, Completion, Event, Finish, Forking, History, Legal, Limits, before, completion_of, earliest, ending_of, finished, finishes, first_read, followed, forking, is_available, is_task_of, list_any}
+use Rattle.scope_index.specs.{option_and_then, option_map_or, option_or, readable, readable_at, state}
+use Rattle.scope_index.proofs.Words.{IsTask, and_right, both_ways, earliest_same, entry_at, eq-eqb, false_from_ne_true, finish_passed, finisher_passed, forking_same, forking_since, get_push, is_task_stays, last_event}
+use Rattle.scope_index.proofs.Words.{option_or-none, or_left, or_right, running_forked, running_task, state_stays, task_there}
 use Rattle.scope_index.proofs.Over.{IsOver, over_ended}
 
 any_at : (p : Event → Bool) (es : List Event) (i : ℕ) (e : Event) → slice_get es i ≡ Some e → p e ≡ true → list_any p es ≡ true

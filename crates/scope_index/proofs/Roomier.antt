@@ -1,15 +1,6 @@
 -- What is kept with more room is kept of the same history.
-use Rattle.std.proofs.Common.{◌≡◌, ℕ, sym, subst}
-use Rattle.scope_rules.specs.History.{History}
-use Rattle.scope_rows.specs.Table.{RowTable}
-use Rattle.scope_rows.specs.Agreement.{AreRowsOf}
-use Rattle.scope_rows.specs.DeadlineTable.{DeadlineTable}
-use Rattle.scope_rows.specs.DeadlinesOf.{AreDeadlinesOf}
-use Rattle.scope_index.specs.ForkTable.{ForkTable}
-use Rattle.scope_index.specs.ForksOf.{AreForksOf}
-use Rattle.scope_index.specs.CancelTables.{CancelTable}
-use Rattle.scope_index.specs.CancelsOf.{AreCancelsOf}
-use Rattle.scope_index.specs.IndexTables.{IndexTable, IsIndexOf, HasRoomForEnds}
+use Rattle.std.proofs.Common.{ℕ, ◌≡◌, subst, sym}
+use Rattle.scope_index.specs.{AreCancelsOf, AreDeadlinesOf, AreForksOf, AreRowsOf, CancelTable, DeadlineTable, ForkTable.ForkTable, HasRoomForEnds, History, IndexTable, IsIndexOf, RowTable}
 
 -- rows, whatever room they have
 pub rows_with_room : (h : History) (rows : RowTable) (n m : ℕ) → AreRowsOf h rows → AreRowsOf h (record rows { scope_room = n; task_room = m })

@@ -1,26 +1,10 @@
 -- What one event more makes of the row of a scope.
-use Rattle.std.proofs.Common.{◌≡◌, ℕ, ◌+◌, ◌||◌, Bool, true, false, cond, is_some, Option, Some, None, option_map, length, refl, ap, sym, ◌∙◌}
-use Rattle.std.specs.Option.{option_or, option_map_or}
-use Rattle.scope_rules.specs.declared.types.capacity.Limits.{Limits}
-use Rattle.scope_rules.specs.declared.types.answers.CauseKind.{CauseKind}
-use Rattle.scope_rules.specs.declared.types.answers.CauseKind.TheVariants.{Deadline}
-use Rattle.scope_rules.specs.declared.types.events.Event.{Event}
-use Rattle.scope_rules.specs.declared.types.records.FirstCancel.{FirstCancel}
-use Rattle.scope_rules.specs.Chains.{shifted}
-use Rattle.scope_rules.specs.History.{History, followed, moment}
-use Rattle.scope_rules.specs.Scopes.{joined, joins}
-use Rattle.scope_rules.specs.Cancels.{direct_kind, joiner_fires, own_cancel, deadline, counting_deadline, move_of}
-use Rattle.scope_rules.specs.Legal.{Legal}
-use Rattle.scope_rules.proofs.Growing.{opening_stays}
-use Rattle.scope_rules.proofs.Staying.{outer_stays}
-use Rattle.scope_rules.proofs.ChainsGrow.{parent_stays}
-use Rattle.scope_rules.proofs.Timed.{counting_grows}
-use Rattle.deadline_core.specs.Moments.{is_past}
-use Rattle.cancel_tree.specs.declared.rows.ScopeNode.{ScopeNode}
+use Rattle.std.proofs.Common.{ℕ, ◌+◌, ◌||◌, ◌∙◌, ◌≡◌, Bool, None, Option, Some, ap, cond, false, is_some, length, option_map, refl, sym, true}
+use Rattle.scope_index.specs.{CauseKind, Deadline, Event, FirstCancel, History, IsNodeOf, Legal, Limits, ScopeNode, cancel_at, counting_deadline, deadline, direct_kind, followed, is_past, joined, joiner_fires, joins, moment}
+use Rattle.scope_index.specs.{move_of, option_map_or, option_or, own_cancel, shifted}
+use Rattle.scope_index.proofs.Words.{counting_grows, opening_stays, outer_stays, parent_stays}
+use Rattle.scope_index.proofs.OwnCancels.{kind_told, overdue_cancelled, own_cancel_next}
 use Rattle.cancel_tree.specs.Rows as rows
-use Rattle.cancel_tree.specs.Rows.{cancel_at}
-use Rattle.scope_index.specs.CancelsOf.{IsNodeOf}
-use Rattle.scope_index.proofs.OwnCancels.{kind_told, own_cancel_next, overdue_cancelled}
 
 map_or_shifted : (b place n : ℕ) (old : Option FirstCancel) (k : Option CauseKind) → option_or (option_map (shifted b) old) (option_map (λ x. cancel_at place (b + n) x) k) ≡ option_map (shifted b) (option_or old (option_map (λ x. cancel_at place n x) k))
 map_or_shifted b place n (Some c) k = refl

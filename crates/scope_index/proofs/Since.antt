@@ -1,13 +1,7 @@
 -- What each accepted event keeps holds of a legal history if it held before a place.
-use Rattle.std.proofs.Common.{◌≡◌, ℕ, zero, suc, ◌+◌, ◌-◌, ◌≤◌, length, ap, sym, subst, arith}
-use Rattle.scope_rules.specs.declared.types.capacity.Limits.{Limits}
-use Rattle.scope_rules.specs.declared.types.events.Event.{Event}
-use Rattle.scope_rules.specs.History.{History, before, followed}
-use Rattle.scope_rules.specs.Legal.{Accepts, Legal}
-use Rattle.scope_rules.proofs.Accepted.{entry_at}
-use Rattle.scope_rules.proofs.Nesting.{legal_before}
-use Rattle.scope_rules.proofs.Prefixes.{take_at}
-use Rattle.scope_rules.proofs.Pushing.{before_all}
+use Rattle.std.proofs.Common.{ℕ, ◌+◌, ◌-◌, ◌≡◌, ◌≤◌, ap, arith, length, subst, suc, sym, zero}
+use Rattle.scope_index.specs.{Accepts, Event, History, Legal, Limits, before, followed}
+use Rattle.scope_index.proofs.Words.{before_all, entry_at, legal_before, take_at}
 
 module _ (L : Limits) (P : History → Type 0) (step : (g : History) (e : Event) → Legal L g → Accepts L g e → P g → P (followed g e)) where
   -- so many events later

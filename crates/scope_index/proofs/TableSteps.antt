@@ -1,22 +1,9 @@
 -- What one event more, which opens no scope, makes of the table.
-use Rattle.std.proofs.Common.{◌≡◌, ℕ, ◌+◌, ◌≤◌, Bool, true, false, cond, eqb, Option, Some, None, option_map, [], ◌++◌, List, length, slice_get, refl, ap, sym, subst, ◌∙◌, arith}
-use Rattle.std.specs.List.{cons_option}
-use Rattle.std.proofs.lemmas.List.{append-nil}
-use Rattle.scope_rules.specs.declared.types.capacity.Limits.{Limits}
-use Rattle.scope_rules.specs.declared.types.events.Event.{Event}
-use Rattle.scope_rules.specs.History.{History, followed, opened_count, moment, is_open}
-use Rattle.scope_rules.specs.Completions.{completions, completion_of}
-use Rattle.scope_rules.specs.Legal.{Legal}
-use Rattle.scope_rules.proofs.CompletionSteps.{completions_grow}
-use Rattle.scope_rules.proofs.Growing.{opening_stays}
-use Rattle.scope_rules.proofs.Owing.{count_push}
-use Rattle.cancel_tree.specs.declared.rows.ScopeNode.{ScopeNode}
+use Rattle.std.proofs.Common.{[], ℕ, ◌++◌, ◌+◌, ◌∙◌, ◌≡◌, ◌≤◌, Bool, List, None, Option, Some, ap, arith, cond, eqb, false, length, option_map, refl, slice_get, subst, sym, true}
+use Rattle.scope_index.specs.{AreCancelsOf, CancelTable, Event, History, IsAccountOf, IsNodeOf, JoinerStanding, Legal, Limits, ScopeNode, StandsFor, cancel_at, changed, completion_of, completions, cons_option, followed, is_open}
+use Rattle.scope_index.specs.{moment, opened_count}
+use Rattle.scope_index.proofs.Words.{append-nil, completions_grow, count_push, opening_stays, row_changed}
 use Rattle.cancel_tree.specs.Rows as rows
-use Rattle.cancel_tree.specs.Rows.{changed, cancel_at}
-use Rattle.cancel_tree.proofs.RowLaws.{row_changed}
-use Rattle.join_rules.specs.JoinerStanding.{JoinerStanding, StandsFor}
-use Rattle.scope_index.specs.CancelTables.{CancelTable}
-use Rattle.scope_index.specs.CancelsOf.{IsNodeOf, IsAccountOf, AreCancelsOf}
 
 -- an event that completes no task leaves each account right
 pub account_stays : (L : Limits) (h : History) (e : Event) (s : ℕ) (a : JoinerStanding) → Legal L h → completion_of (followed h e) s e ≡ None → IsAccountOf h s a → IsAccountOf (followed h e) s a

@@ -1,19 +1,7 @@
 -- What one event more makes of the tasks of a scope.
-use Rattle.std.proofs.Common.{◌≡◌, ℕ, zero, suc, ◌+◌, ◌<◌, ◌==◌, Bool, false, cond, Option, List, [], ◌∷◌, ◌++◌, refl, ap, sym, ◌∙◌, arith}
-use Rattle.std.proofs.lemmas.List.Elements.{filter-append}
-use Rattle.std.specs.Option.{option_map_or}
-use Rattle.std.specs.List.{filter, range_with_len}
-use Rattle.scope_rules.specs.declared.types.events.Event.{Event}
-use Rattle.scope_rules.specs.declared.types.events.Event.TheVariants.{Fork}
-use Rattle.scope_rules.specs.declared.types.records.Forking.{Forking}
-use Rattle.scope_rules.specs.declared.types.values.Label.{Label}
-use Rattle.scope_rules.specs.History.{History, followed, tasks, forked_count, forking, is_fork}
-use Rattle.scope_rules.specs.Completions.{is_task_of}
-use Rattle.scope_rules.proofs.Numbers.{range_push}
-use Rattle.scope_rules.proofs.OneEventMore.{forking_same, forking_other}
-use Rattle.scope_rules.proofs.Owing.{count_push}
-use Rattle.scope_rules.proofs.StageSteps.{next_forking}
-use Rattle.scope_rules.specs.Nests.{tasks_of}
+use Rattle.std.proofs.Common.{[], ℕ, ◌++◌, ◌+◌, ◌<◌, ◌==◌, ◌∙◌, ◌∷◌, ◌≡◌, Bool, List, Option, ap, arith, cond, false, refl, suc, sym, zero}
+use Rattle.scope_index.specs.{Event, Fork, Forking, History, Label, filter, followed, forked_count, forking, is_fork, is_task_of, option_map_or, range_with_len, tasks, tasks_of}
+use Rattle.scope_index.proofs.Words.{count_push, filter-append, forking_other, forking_same, next_forking, range_push}
 
 -- one of the list, if the test holds
 abbrev pub if_one : Bool → ℕ → List ℕ

@@ -1,31 +1,9 @@
 -- What the parts want before each event, if the event is accepted.
-use Rattle.std.proofs.Common.{◌≡◌, ℕ, ◌+◌, ◌-◌, ◌≤◌, ◌<◌, ◌^◌, false, Option, Some, None, option_map, length, refl, sym, subst, arith}
-use Rattle.std.specs.Option.{IfSome}
-use Rattle.std.proofs.lemmas.Bool.{ltb-false}
-use Rattle.scope_rules.specs.declared.types.capacity.Limits.{Limits}
-use Rattle.scope_rules.specs.declared.types.capacity.TheConstants.{LEVEL_LIMIT}
-use Rattle.scope_rules.specs.declared.types.events.Event.{Event}
-use Rattle.scope_rules.specs.declared.types.events.Event.TheVariants.{Open, Cancel, Move, Tick, Bind, Unbind, Join}
-use Rattle.scope_rules.specs.declared.types.joiners.Policy.{Policy}
-use Rattle.scope_rules.specs.declared.types.events.Options.{Options}
-use Rattle.scope_rules.specs.History.{History, moment}
-use Rattle.scope_rules.specs.Scopes.{joined, surrounding, next_level}
-use Rattle.scope_rules.specs.Table.{row_check}
-use Rattle.scope_rules.specs.Legal.{Legal, Accepts}
-use Rattle.scope_rules.proofs.Accepted.{checks_at, not_refused}
-use Rattle.scope_rules.proofs.NewScopes.{scope_passed}
-use Rattle.scope_rules.proofs.Nesting.{IsOpened, surrounding_opened}
-use Rattle.scope_rules.proofs.PassedRows.{IsActor, actor_passed, open_passed}
-use Rattle.scope_rules.proofs.Pushing.{open_number}
-use Rattle.cancel_tree.specs.Rows.{IsLatest, level_in}
-use Rattle.scope_index.specs.CancelTables.{CancelTable, HasRow}
-use Rattle.scope_index.specs.CancelsOf.{AreCancelsOf}
+use Rattle.std.proofs.Common.{ℕ, ◌+◌, ◌-◌, ◌<◌, ◌^◌, ◌≡◌, ◌≤◌, None, Option, Some, arith, false, length, option_map, refl, subst, sym}
+use Rattle.scope_index.specs.{Accepts, AreCancelsOf, Bind, Cancel, CancelTable, Event, HasEnv, HasRow, History, IfSome, IndexTable, IsLatest, IsReadyAt, IsReadyFor, Join, LEVEL_LIMIT, Legal, Limits, Move, Open, Options, Policy}
+use Rattle.scope_index.specs.{Tick, Unbind, joined, level_in, moment, next_level, row_check, surrounding}
+use Rattle.scope_index.proofs.Words.{IsActor, IsOpened, actor_passed, checks_at, has_env_of_actor, join_passed, ltb-false, not_refused, open_number, open_passed, scope_passed, surrounding_opened}
 use Rattle.scope_index.proofs.CancelReadings.{has_row, latest_place, level_in_read}
-use Rattle.scoped_env.specs.EnvTable.{HasEnv}
-use Rattle.scoped_env.proofs.Held.{has_env_of_actor}
-use Rattle.scope_rows.proofs.JoinLaws.{join_passed}
-use Rattle.scope_index.specs.IndexTables.{IndexTable}
-use Rattle.scope_index.specs.Events.{IsReadyFor, IsReadyAt}
 
 -- ---- what accepted events say
 

@@ -1,14 +1,6 @@
 -- What the rows, the account and the tasks of a scope say of what its join answers.
-use Rattle.std.specs.Prelude.{ℕ, nat_lt, Option, Some, None, IsSome, List, if◌then◌else◌}
-use Rattle.std.specs.Option.{option_and_then, option_map_or}
-use Rattle.scope_rules.specs.declared.types.answers.State.{State}
-use Rattle.scope_rules.specs.declared.types.answers.State.TheVariants.{Unavailable}
-use Rattle.scope_rules.specs.declared.types.answers.Cause.{Cause}
-use Rattle.scope_rules.specs.declared.types.records.FirstCancel.{FirstCancel}
-use Rattle.scope_rules.specs.declared.types.values.Completion.{Completion}
-use Rattle.scope_rules.specs.Answers.{Readable, is_available, values_by, listing_by}
-use Rattle.scope_rows.specs.Table.{RowTable, scope_row, task_row}
-use Rattle.join_rules.specs.Totals.{Totals}
+use Rattle.std.specs.Prelude.{ℕ, IsSome, List, None, Option, Some, if◌then◌else◌, nat_lt}
+use Rattle.scope_index.specs.Words.{Cause, Completion, FirstCancel, Readable, RowTable, State, Totals, Unavailable, is_available, listing_by, option_and_then, option_map_or, scope_row, task_row, values_by}
 
 -- what the first cancel says before place i: nothing, if it came later
 abbrev pub cause_before : Option FirstCancel → ℕ → Option Cause

@@ -1,7 +1,6 @@
 -- What a join answered, without the lists.
-use Rattle.scope_rules.specs.declared.types.outcomes.Outcome.{Outcome}
+use Rattle.scope_index.specs.Words.{BareOutcome, Outcome}
 use Rattle.scope_rules.specs.declared.types.outcomes.Outcome.TheVariants as outcome
-use Rattle.scope_index.specs.declared.bare.BareOutcome.{BareOutcome}
 use Rattle.scope_index.specs.declared.bare.BareOutcome.TheVariants as bare
 
 abbrev pub bare_of : Outcome → BareOutcome

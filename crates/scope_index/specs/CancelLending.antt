@@ -1,9 +1,8 @@
 -- What the table of cancels is once a list that it lent is handed back.
-use Rattle.std.specs.Prelude.{◌≡◌, ⊤}
-use Rattle.std.specs.Borrow.{follows_so, Fml, MutBor}
+use Rattle.std.specs.Prelude.{⊤, ◌≡◌}
+use Rattle.scope_index.specs.Words.{Fml, MutBor, follows_so}
+use Rattle.scope_index.specs.{CancelTables.CancelTable, contracts.cancels.CancelIndex.the_row}
 use mathlib.Core.Option.{none}
-use Rattle.scope_index.specs.CancelTables.{CancelTable}
-use Rattle.scope_index.specs.contracts.cancels.CancelIndex.{the_row}
 
 -- it is what it was before
 abbrev pub KeepsTable : MutBor CancelTable → Fml

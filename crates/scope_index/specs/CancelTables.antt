@@ -1,15 +1,8 @@
 -- What is kept of cancels: a row a scope of what the tree was told, an account a scope, and the moment.
 -- Rows count from 1, and `before` scopes were numbered before them.
-use Rattle.std.specs.Prelude.{◌≡◌, ◌≢◌, ℕ, ◌+◌, ◌-◌, ◌^◌, ◌<◌, ◌≤◌, Bool, true, nat_lt, Option, Some, None, List, [], ◌∷◌, ◌++◌, length, slice_get, if◌then◌else◌, is_some}
-use Rattle.std.specs.Option.{option_and_then}
+use Rattle.std.specs.Prelude.{[], ℕ, ◌++◌, ◌+◌, ◌-◌, ◌<◌, ◌^◌, ◌∷◌, ◌≡◌, ◌≢◌, ◌≤◌, Bool, List, None, Option, Some, if◌then◌else◌, is_some, length, nat_lt, slice_get, true}
+use Rattle.scope_index.specs.Words.{CauseKind, Completion, HasRoom, JoinerStanding, Moments, SameButRoom, SameJoiner, ScopeNode, cancel_at, changed, counted, new_row, option_and_then, row, with_deadline, with_own}
 use Rattle.std.specs.FinMap as map
-use Rattle.deadline_core.specs.Moments.{Moments}
-use Rattle.scope_rules.specs.declared.types.answers.CauseKind.{CauseKind}
-use Rattle.cancel_tree.specs.declared.rows.ScopeNode.{ScopeNode}
-use Rattle.cancel_tree.specs.Rows.{row, new_row, changed, with_own, with_deadline, cancel_at}
-use Rattle.scope_rules.specs.declared.types.values.Completion.{Completion}
-use Rattle.join_rules.specs.JoinerStanding.{JoinerStanding, HasRoom, SameJoiner, SameButRoom}
-use Rattle.join_rules.specs.Totals.{counted}
 
 pub record CancelTable : Type 0 where
   pub before : ℕ

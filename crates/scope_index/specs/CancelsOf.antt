@@ -1,22 +1,10 @@
 -- When what is kept of cancels is a history's.
-use Rattle.std.specs.Prelude.{◌≡◌, ℕ, ◌+◌, false, Option, Some, option_map, List, length, slice_get}
-use Rattle.scope_rules.specs.declared.types.records.Opening.{Opening}
-use Rattle.scope_rules.specs.Chains.{shifted}
-use Rattle.scope_rules.specs.History.{History, followed, opening, opened_count, moment}
-use Rattle.scope_rules.specs.declared.types.capacity.Limits.{Limits}
-use Rattle.scope_rules.specs.declared.types.events.Event.TheVariants.{Open, Move}
-use Rattle.scope_rules.specs.declared.types.events.Options.{Options}
-use Rattle.scope_rules.specs.declared.types.joiners.Policy.{Policy}
-use Rattle.scope_rules.specs.Scopes.{joined, surrounding}
-use Rattle.scope_rules.specs.Legal.{Legal}
-use Rattle.scope_rules.specs.Scopes as scopes
-use Rattle.scope_rules.specs.Completions.{completions}
-use Rattle.scope_rules.specs.Cancels.{own_cancel, counting_deadline, is_cancelled, cancelled_at}
-use Rattle.cancel_tree.specs.declared.rows.ScopeNode.{ScopeNode}
-use Rattle.cancel_tree.specs.Rows as rows
-use Rattle.cancel_tree.specs.Order.{IsInOrder}
-use Rattle.join_rules.specs.JoinerStanding.{JoinerStanding, StandsFor}
+use Rattle.std.specs.Prelude.{ℕ, ◌+◌, ◌≡◌, List, Option, Some, false, length, option_map, slice_get}
+use Rattle.scope_index.specs.Words.{History, IsInOrder, JoinerStanding, Legal, Limits, Move, Open, Opening, Options, Policy, ScopeNode, StandsFor, cancelled_at, completions, counting_deadline, followed, is_cancelled, joined}
+use Rattle.scope_index.specs.Words.{moment, opened_count, opening, own_cancel, shifted, surrounding}
 use Rattle.scope_index.specs.CancelTables.{CancelTable}
+use Rattle.scope_rules.specs.Scopes as scopes
+use Rattle.cancel_tree.specs.Rows as rows
 
 -- the row is that of scope s, if the rows are numbered after b: the scope around it, the one whose
 -- cancels reach it, the place of its opening, its own cancel, and its deadline while that counts

@@ -1,14 +1,7 @@
 -- What the beginning of a close makes of cancels.
-use Rattle.std.specs.Prelude.{◌≡◌, ℕ, Option, length}
-use Rattle.scope_rules.specs.declared.types.capacity.Limits.{Limits}
-use Rattle.scope_rules.specs.declared.types.events.Event.TheVariants.{BeginClose}
-use Rattle.scope_rules.specs.History.{History, followed}
-use Rattle.scope_rules.specs.Scopes.{innermost}
-use Rattle.scope_rules.specs.Legal.{Legal, Accepts}
-use Rattle.scope_rows.specs.Table.{RowTable}
-use Rattle.scope_rows.specs.Agreement.{AreRowsOf}
-use Rattle.scope_index.specs.CancelTables.{CancelTable}
-use Rattle.scope_index.specs.CancelsOf.{AreCancelsOf}
+use Rattle.std.specs.Prelude.{ℕ, ◌≡◌, Option, length}
+use Rattle.scope_index.specs.Words.{Accepts, AreRowsOf, BeginClose, History, Legal, Limits, RowTable, followed, innermost}
+use Rattle.scope_index.specs.{CancelTables.CancelTable, CancelsOf.AreCancelsOf}
 
 -- rows and cancels are those of a history of this length, in which the close of scope s may begin, by the
 -- owner whose innermost scope this is

@@ -1,8 +1,6 @@
 -- The deadline of a realm that comes next.
-use Rattle.std.specs.Prelude.{◌≡◌, ℕ, ◌<◌, ◌≤◌, false, Some}
-use Rattle.scope_rules.specs.History.{History, moment}
-use Rattle.scope_rules.specs.Scopes.{closed}
-use Rattle.scope_rules.specs.Cancels.{counting_deadline, is_cancelled}
+use Rattle.std.specs.Prelude.{ℕ, ◌<◌, ◌≡◌, ◌≤◌, Some, false}
+use Rattle.scope_index.specs.Words.{History, closed, counting_deadline, is_cancelled, moment}
 
 -- the deadline of scope s is to come and can do something: the scope isn't joined, closed or cancelled
 pub record IsComing (h : History) (s deadline : ℕ) : Type 0 where

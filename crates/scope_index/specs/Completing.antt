@@ -1,9 +1,6 @@
 -- What the end of a task makes of cancels.
-use Rattle.std.specs.Prelude.{◌≡◌, ℕ, Bool, Some, List, [], ◌∷◌, ◌++◌, if◌then◌else◌}
-use Rattle.scope_rules.specs.declared.types.answers.CauseKind.TheVariants.{Joiner}
-use Rattle.scope_rules.specs.declared.types.values.Completion.{Completion}
-use Rattle.scope_rules.specs.Joining.{fires}
-use Rattle.join_rules.specs.JoinerStanding.{JoinerStanding, StandsFor}
+use Rattle.std.specs.Prelude.{[], ℕ, ◌++◌, ◌∷◌, ◌≡◌, Bool, List, Some, if◌then◌else◌}
+use Rattle.scope_index.specs.Words.{Completion, Joiner, JoinerStanding, StandsFor, fires}
 use Rattle.scope_index.specs.CancelTables.{CancelTable, HasCounted, account_at, cancelled}
 
 -- the account of scope s has the completion, and if its joiner fires at it, the scope its own cancel

@@ -1,9 +1,6 @@
 -- When what is kept can be told an event, and what it is then.
-use Rattle.std.specs.Prelude.{◌≡◌, ℕ, length}
-use Rattle.scope_rules.specs.declared.types.capacity.Limits.{Limits}
-use Rattle.scope_rules.specs.declared.types.events.Event.{Event}
-use Rattle.scope_rules.specs.History.{History, followed}
-use Rattle.scope_rules.specs.Legal.{Legal, Accepts}
+use Rattle.std.specs.Prelude.{ℕ, ◌≡◌, length}
+use Rattle.scope_index.specs.Words.{Accepts, Event, History, Legal, Limits, followed}
 use Rattle.scope_index.specs.IndexTables.{IndexTable, IsIndexOf}
 
 -- it is what is kept of a history in which the event is accepted

@@ -1,7 +1,7 @@
 -- What is kept of forks: the tasks of each scope since the base, and how a call changes that.
-use Rattle.std.specs.Prelude.{ℕ, ◌-◌, ◌≤◌, List, [], ◌∷◌, ◌++◌, slice_index_or}
-use Rattle.scope_rows.specs.Table.{IsNumbered, place_of}
+use Rattle.std.specs.Prelude.{[], ℕ, ◌++◌, ◌-◌, ◌∷◌, ◌≤◌, List, slice_index_or}
 use Rattle.scope_rows.specs.Steps.{altered}
+use Rattle.scope_index.specs.Words.{IsNumbered, place_of}
 
 -- the tasks of a scope
 pub record ForkedTasks : Type 0 where

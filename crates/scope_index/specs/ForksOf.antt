@@ -1,10 +1,7 @@
 -- When what is kept of forks is a history's.
-use Rattle.std.specs.Prelude.{◌≡◌, ℕ, ◌+◌, Bool, true, false, Some, length, slice_get}
-use Rattle.scope_rules.specs.declared.types.events.Event.{Event}
-use Rattle.scope_rules.specs.declared.types.events.Event.TheVariants.{Open, Fork}
-use Rattle.scope_rules.specs.History.{History, opened_count}
+use Rattle.std.specs.Prelude.{ℕ, ◌+◌, ◌≡◌, Bool, Some, false, length, slice_get, true}
+use Rattle.scope_index.specs.Words.{Event, Fork, History, Open, opened_count, tasks_of}
 use Rattle.scope_index.specs.ForkTable.{ForkTable, ForkedTasks}
-use Rattle.scope_rules.specs.Nests.{tasks_of}
 
 -- the table has the tasks of each scope that was opened since the base
 pub record AreForksOf (h : History) (t : ForkTable) : Type 0 where

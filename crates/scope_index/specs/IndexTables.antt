@@ -1,20 +1,7 @@
 -- What is kept of a history, and when.
-use Rattle.std.specs.Prelude.{◌≡◌, ℕ, ◌+◌, ◌≤◌, ◌==◌, Bool, true, false, Some, length, slice_get, count_by}
-use Rattle.scope_rules.specs.declared.types.answers.Counts.{Counts}
-use Rattle.scope_rules.specs.declared.types.events.Event.{Event}
-use Rattle.scope_rules.specs.declared.types.events.Event.TheVariants.{Fork}
-use Rattle.join_rules.specs.JoinerStanding.{JoinerStanding}
-use Rattle.scope_rules.specs.History.{History}
-use Rattle.scope_rows.specs.Table.{RowTable}
-use Rattle.scope_rows.specs.Agreement.{AreRowsOf}
-use Rattle.scoped_env.specs.EnvTable.{EnvTable}
-use Rattle.scope_index.specs.ForkTable.{ForkTable}
-use Rattle.scope_index.specs.ForksOf.{AreForksOf}
-use Rattle.scoped_env.specs.Agreement.{AreEnvsOf}
-use Rattle.scope_rows.specs.DeadlineTable.{DeadlineTable}
-use Rattle.scope_rows.specs.DeadlinesOf.{AreDeadlinesOf}
-use Rattle.scope_index.specs.CancelTables.{CancelTable, account_at}
-use Rattle.scope_index.specs.CancelsOf.{AreCancelsOf}
+use Rattle.std.specs.Prelude.{ℕ, ◌+◌, ◌==◌, ◌≡◌, ◌≤◌, Bool, Some, count_by, false, length, slice_get, true}
+use Rattle.scope_index.specs.Words.{AreDeadlinesOf, AreEnvsOf, AreRowsOf, Counts, DeadlineTable, EnvTable, Event, Fork, History, JoinerStanding, RowTable}
+use Rattle.scope_index.specs.{CancelTables.CancelTable, CancelTables.account_at, CancelsOf.AreCancelsOf, ForkTable.ForkTable, ForksOf.AreForksOf}
 
 pub record IndexTable : Type 0 where
   pub rows : RowTable

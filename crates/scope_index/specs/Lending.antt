@@ -1,9 +1,8 @@
 -- What is kept once a list that it lent is handed back.
-use Rattle.std.specs.Prelude.{◌≡◌, ⊤}
-use Rattle.std.specs.Borrow.{follows_so, Fml, MutBor}
+use Rattle.std.specs.Prelude.{⊤, ◌≡◌}
+use Rattle.scope_index.specs.Words.{Fml, MutBor, follows_so}
+use Rattle.scope_index.specs.{IndexTables.IndexTable, contracts.index.RealmIndex.the_row}
 use mathlib.Core.Option.{none}
-use Rattle.scope_index.specs.IndexTables.{IndexTable}
-use Rattle.scope_index.specs.contracts.index.RealmIndex.{the_row}
 
 -- it is what it was before
 abbrev pub KeepsAll : MutBor IndexTable → Fml

@@ -1,9 +1,7 @@
 //! What can be read of the tasks of a scope, by the index.
 
-ghost use Rattle.std.specs.Prelude.{◌≡◌, ◌≤◌, ◌<◌, ◌+◌, ◌++◌, [], vec_len, vec_capacity};
-ghost use Rattle.std.specs.Option.{option_and_then};
-ghost use Rattle.std.specs.List.{cons_option};
-ghost use Rattle.scope_index.specs.Answers.{readable_by, state_in, readable_in};
+ghost use Rattle.std.specs.Prelude.{[], ◌++◌, ◌+◌, ◌<◌, ◌≡◌, ◌≤◌, vec_capacity, vec_len};
+ghost use Rattle.scope_index.specs.{cons_option, option_and_then, readable_by, readable_in, state_in};
 
 use join_rules::JoinerAccount;
 use scope_rows::Rows;

@@ -1,12 +1,7 @@
 //! Applies an accepted event to the index: one match, one call for each event.
 
-ghost use Rattle.std.specs.Prelude.{◌≡◌, IsOk, OnOk, OnErr};
-ghost use Rattle.scope_rules.specs.declared.types.capacity.Limits.{Limits};
-ghost use Rattle.scope_rules.specs.History.{History};
-ghost use Rattle.scope_rules.specs.Legal.{Legal};
-ghost use Rattle.scope_rules.specs.Load.{weight};
-ghost use Rattle.scope_index.specs.IndexTables.{IsIndexOf};
-ghost use Rattle.scope_index.specs.Events.{IsReadyAt, HasAppliedAt};
+ghost use Rattle.std.specs.Prelude.{◌≡◌, IsOk, OnErr, OnOk};
+ghost use Rattle.scope_index.specs.{HasAppliedAt, History, IsIndexOf, IsReadyAt, Legal, Limits, weight};
 
 use crate::index::RealmIndex;
 use join_rules::StoredTest;

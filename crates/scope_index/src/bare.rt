@@ -1,9 +1,7 @@
 //! What a join answers, without the lists.
 
 ghost use Rattle.std.specs.Prelude.{◌≡◌};
-ghost use Rattle.std.specs.Option.{option_map_or};
-ghost use Rattle.scope_rules.specs.Answers.{answer_by, answer_at_expiry, answer_of, outcome_of_end};
-ghost use Rattle.scope_index.specs.Bare.{bare_of};
+ghost use Rattle.scope_index.specs.{answer_at_expiry, answer_by, answer_of, bare_of, option_map_or, outcome_of_end};
 
 use scope_rules::joins::TaskReadings;
 use scope_rules::types::answers::{Cause, CauseKind};

@@ -1,6 +1,6 @@
 //! The scopes that were cancelled, as they are lent to be read.
 
-ghost use Rattle.std.specs.Prelude.{◌+◌, ◌^◌, ◌<◌, All};
+ghost use Rattle.std.specs.Prelude.{◌+◌, ◌<◌, ◌^◌, All};
 
 use scope_rules::ScopeId;
 

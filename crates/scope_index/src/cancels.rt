@@ -1,21 +1,7 @@
-ghost use Rattle.scope_rules.specs.Chains.{shifted};
-ghost use Rattle.std.specs.Prelude.{◌≡◌, ℕ, ◌+◌, ◌-◌, ◌^◌, ◌<◌, ◌≤◌, [], false, Option, Some, None, IfSome, MatchOption, OnOk, OnErr, option_map, List, drop, length, slice_get};
-ghost use Rattle.scope_rules.specs.declared.types.capacity.Limits.{Limits};
-ghost use Rattle.scope_rules.specs.declared.types.events.Event.{Event};
-ghost use Rattle.scope_rules.specs.declared.types.capacity.TheConstants.{LEVEL_LIMIT, TASK_LIMIT};
-ghost use Rattle.scope_rules.specs.Origin.{Origin};
-ghost use Rattle.scope_rules.specs.History.{History, followed, moment};
-ghost use Rattle.scope_rules.specs.Scopes.{joined, level, surrounding};
-ghost use Rattle.scope_rules.specs.Cancels.{first_cancel, cause, is_cancelled, effective};
-ghost use Rattle.scope_rules.specs.Legal.{Legal};
-ghost use Rattle.cancel_tree.specs.Rows.{IsAdded, IsLatest, level_in};
-ghost use Rattle.join_rules.specs.JoinerStanding.{HasRoom, StandsFor};
-ghost use Rattle.scope_index.specs.CancelTables.{CancelTable, HasRow, HasReserved, HasCounted, AreOneMore, account_at, awaited_of, cancelled, deadlined, with_scope};
-ghost use Rattle.scope_index.specs.CancelsOf.{AreCancelsOf, IsCancelOrderOf, IsMoved, IsOpened};
-ghost use Rattle.scope_index.specs.Coming.{IsNextDeadline, NoDeadlineComes};
-ghost use Rattle.scope_index.specs.CancelLending.{KeepsTable};
-ghost use Rattle.scope_index.specs.Lent.{scopes_of};
-ghost use Rattle.std.specs.Borrow.{sem};
+ghost use Rattle.std.specs.Prelude.{[], ℕ, ◌+◌, ◌-◌, ◌<◌, ◌^◌, ◌≡◌, ◌≤◌, IfSome, List, MatchOption, None, OnErr, OnOk, Option, Some, drop, false, length, option_map, slice_get};
+ghost use Rattle.scope_index.specs.{AreCancelsOf, AreOneMore, CancelTable, Event, HasCounted, HasReserved, HasRoom, HasRow, History, IsAdded, IsCancelOrderOf, IsLatest, IsMoved, IsNextDeadline, IsOpened, KeepsTable, LEVEL_LIMIT};
+ghost use Rattle.scope_index.specs.{Legal, Limits, NoDeadlineComes, Origin, StandsFor, TASK_LIMIT, account_at, awaited_of, cancelled, cause, deadlined, effective, first_cancel, followed, is_cancelled, joined, level, level_in};
+ghost use Rattle.scope_index.specs.{moment, scopes_of, sem, shifted, surrounding, with_scope};
 
 use crate::cancelled::CancelledScopes;
 use cancel_tree::Tree;

@@ -1,8 +1,7 @@
 //! The beginning of a close, as the scopes that it covers see it.
 
 ghost use Rattle.std.specs.Prelude.{◌≡◌};
-ghost use Rattle.scope_rows.specs.Steps.{below_of};
-ghost use Rattle.scope_index.specs.Closing.{CanClose, HasBegunClose};
+ghost use Rattle.scope_index.specs.{CanClose, HasBegunClose, below_of};
 
 use crate::CancelIndex;
 use scope_rows::Rows;

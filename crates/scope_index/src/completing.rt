@@ -1,11 +1,7 @@
 //! The end of a task, as its scope's account and joiner see it.
 
-ghost use Rattle.std.specs.Prelude.{◌≡◌, ◌<◌, IfSome};
-ghost use Rattle.scope_rules.specs.declared.types.capacity.TheConstants.{TASK_LIMIT};
-ghost use Rattle.cancel_tree.specs.Rows.{IsLatest};
-ghost use Rattle.join_rules.specs.JoinerStanding.{HasRoom};
-ghost use Rattle.scope_index.specs.CancelTables.{HasRow, account_at};
-ghost use Rattle.scope_index.specs.Completing.{IsCompleted};
+ghost use Rattle.std.specs.Prelude.{◌<◌, ◌≡◌, IfSome};
+ghost use Rattle.scope_index.specs.{HasRoom, HasRow, IsCompleted, IsLatest, TASK_LIMIT, account_at};
 
 use crate::CancelIndex;
 use join_rules::StoredTest;

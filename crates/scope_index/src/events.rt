@@ -1,17 +1,8 @@
 //! How the index applies each accepted event. `place` is the number of events before that one. If a call
 //! may be refused, it is for memory alone, and then nothing has changed.
 
-ghost use Rattle.std.specs.Prelude.{◌≡◌, ◌<◌, ◌^◌, ℕ, Some, option_map, OnOk, OnErr};
-ghost use Rattle.scope_rows.specs.Table.{HasTask, scope_of};
-ghost use Rattle.scope_rules.specs.History.{History, forking};
-ghost use Rattle.scope_index.specs.IndexTables.{IsIndexOf, HasRoomToFork, all_counts};
-ghost use Rattle.scope_rules.specs.declared.types.capacity.Limits.{Limits};
-ghost use Rattle.scope_rules.specs.declared.types.values.Label.{Label};
-ghost use Rattle.scope_rules.specs.Legal.{Legal};
-ghost use Rattle.scope_rules.specs.Scopes.{forked_in, surrounding};
-ghost use Rattle.scope_rules.specs.Cancels.{is_cancelled};
-ghost use Rattle.scope_index.specs.CancelTables.{HasRow};
-ghost use Rattle.scope_index.specs.Events.{IsReadyFor, IsReadyAt, HasApplied, HasAppliedAt};
+ghost use Rattle.std.specs.Prelude.{ℕ, ◌<◌, ◌^◌, ◌≡◌, OnErr, OnOk, Some, option_map};
+ghost use Rattle.scope_index.specs.{HasApplied, HasAppliedAt, HasRoomToFork, HasRow, HasTask, History, IsIndexOf, IsReadyAt, IsReadyFor, Label, Legal, Limits, all_counts, forked_in, forking, is_cancelled, scope_of, surrounding};
 
 use crate::closing::cancel_covered;
 use crate::completing::complete;

@@ -1,15 +1,6 @@
-ghost use Rattle.std.specs.Prelude.{◌≡◌, ℕ, ◌+◌, ◌≤◌, [], OnOk, OnErr};
-ghost use Rattle.scope_rules.specs.Origin.{Origin};
-ghost use Rattle.scope_rules.specs.declared.types.capacity.Limits.{Limits};
-ghost use Rattle.scope_rules.specs.declared.types.events.Event.TheVariants.{Open, Fork};
-ghost use Rattle.scope_rules.specs.declared.types.events.Options.{Options};
-ghost use Rattle.scope_rules.specs.declared.types.joiners.Policy.{Policy};
-ghost use Rattle.scope_rules.specs.declared.types.values.Label.{Label};
-ghost use Rattle.scope_rules.specs.History.{History, followed, tasks};
-ghost use Rattle.scope_rules.specs.Legal.{Legal};
-ghost use Rattle.scope_rules.specs.Nests.{tasks_of};
-ghost use Rattle.scope_index.specs.ForkTable.{HasForks, HasForkRoom, forks_in, tasks_in, no_forks, no_lists, with_open, with_forks, roomy, with_task};
-ghost use Rattle.scope_index.specs.ForksOf.{AreForksOf};
+ghost use Rattle.std.specs.Prelude.{[], ℕ, ◌+◌, ◌≡◌, ◌≤◌, OnErr, OnOk};
+ghost use Rattle.scope_index.specs.{AreForksOf, Fork, ForkTable.forks_in, HasForkRoom, HasForks, History, Label, Legal, Limits, Open, Options, Origin, Policy, followed, no_forks, no_lists, roomy, tasks, tasks_in, tasks_of};
+ghost use Rattle.scope_index.specs.{with_forks, with_open, with_task};
 
 use scope_rows::Numbered;
 use scope_rules::{ScopeId, TaskId};

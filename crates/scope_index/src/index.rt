@@ -1,14 +1,5 @@
-ghost use Rattle.std.specs.Prelude.{◌≡◌, ℕ, [], List, drop, IfOk};
-ghost use Rattle.std.specs.Borrow.{sem};
-ghost use Rattle.scope_rules.specs.declared.types.capacity.Limits.{Limits};
-ghost use Rattle.scope_rules.specs.History.{History};
-ghost use Rattle.scope_rules.specs.Bindings.{stack};
-ghost use Rattle.scope_rules.specs.Legal.{Legal};
-ghost use Rattle.scope_rules.specs.Replies.{base_of};
-ghost use Rattle.scope_index.specs.CancelsOf.{IsCancelOrderOf};
-ghost use Rattle.scope_index.specs.Lent.{scopes_of};
-ghost use Rattle.scope_index.specs.IndexTables.{IsIndexOf};
-ghost use Rattle.scope_index.specs.Lending.{KeepsAll};
+ghost use Rattle.std.specs.Prelude.{[], ℕ, ◌≡◌, IfOk, List, drop};
+ghost use Rattle.scope_index.specs.{History, IsCancelOrderOf, IsIndexOf, KeepsAll, Legal, Limits, base_of, scopes_of, sem, stack};
 
 use crate::{CancelIndex, CancelledScopes, Forks};
 use scope_rows::{OwnDeadlines, Rows};

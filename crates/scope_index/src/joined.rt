@@ -1,18 +1,7 @@
 //! What the join of a scope answered.
 
-ghost use Rattle.std.specs.Prelude.{◌≡◌, Some, IfOk, option_map};
-ghost use Rattle.scope_rules.specs.declared.types.capacity.Limits.{Limits};
-ghost use Rattle.scope_rules.specs.History.{History};
-ghost use Rattle.scope_rules.specs.Legal.{Legal};
-ghost use Rattle.scope_rules.specs.Outcomes.{outcome};
-ghost use Rattle.scope_rows.specs.Agreement.{AreRowsOf};
-ghost use Rattle.scope_index.specs.CancelTables.{HasRow};
-ghost use Rattle.scope_index.specs.CancelsOf.{AreCancelsOf};
-ghost use Rattle.scope_rules.specs.Answers.{answer_of};
-ghost use Rattle.scope_index.specs.Answers.{HasJoined, cause_before, readable_by};
-ghost use Rattle.scope_index.specs.Bare.{bare_of};
-ghost use Rattle.scope_index.specs.ForkTable.{HasForks};
-ghost use Rattle.scope_index.specs.ForksOf.{AreForksOf};
+ghost use Rattle.std.specs.Prelude.{◌≡◌, IfOk, Some, option_map};
+ghost use Rattle.scope_index.specs.{AreCancelsOf, AreForksOf, AreRowsOf, HasForks, HasJoined, HasRow, History, Legal, Limits, answer_of, bare_of, cause_before, outcome, readable_by};
 
 use crate::CancelIndex;
 use crate::answers::IndexedTasks;

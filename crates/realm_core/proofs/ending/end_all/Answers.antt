@@ -1,7 +1,6 @@
-use Rattle.std.proofs.Common.{ap, ◌∙◌}
-use Rattle.realm_core.specs.Cores.{CoreValue}
-use Rattle.share_ledger.specs.Values.{OwnerValue}
-use Rattle.realm_core.proofs.EndSteps.{way_begins, way_goes_on, way_ends, event_reply_of}
+use Rattle.realm_core.specs.{CoreValue, OwnerValue}
+use Rattle.realm_core.proofs.Words.{◌∙◌, ap}
+use Rattle.realm_core.proofs.EndSteps.{event_reply_of, way_begins, way_ends, way_goes_on}
 use Rattle.realm_core.proofs.ending.end_all.Goals as goal
 
 pub loop-last-init : goal.loop-last-init

@@ -1,7 +1,6 @@
 -- The ends so far are recorded, and the token has seen them.
 use Rattle.std.proofs.Common.{◌≡◌}
-use Rattle.scope_rules.specs.Verdicts.{verdict}
-use Rattle.share_ledger.specs.Steps.{history_of}
+use Rattle.realm_core.specs.{history_of, verdict}
 use Rattle.realm_core.proofs.EndSteps.{IsUnderWay}
 use Rattle.realm_core.proofs.ending.end_all.Given as goal
 

@@ -1,10 +1,6 @@
-use Rattle.std.proofs.Common.{◌≡◌, None, Some, refl, ap, sym, ◌∙◌, subst}
-use Rattle.std.specs.Prelude.{IsOk}
-use Rattle.scope_rules.specs.Replies.{Realm}
-use Rattle.scope_rules.specs.Scopes.{innermost}
-use Rattle.share_ledger.specs.Steps.{history_of}
-use Rattle.realm_core.specs.Cores.{CoreValue}
-use Rattle.realm_core.proofs.EndSteps.{inner_there, inner_ends, one_end, verdict_then, not_refused}
+use Rattle.std.proofs.Common.{◌∙◌, ◌≡◌, IsOk, None, Some, ap, refl, subst, sym}
+use Rattle.realm_core.specs.{CoreValue, Realm, history_of, innermost}
+use Rattle.realm_core.proofs.EndSteps.{inner_ends, inner_there, not_refused, one_end, verdict_then}
 use Rattle.realm_core.proofs.ending.end_innermost.Goals as goal
 
 pub unreachable-requires : goal.unreachable-requires

@@ -1,5 +1,5 @@
 -- What is not so already is recorded.
-use Rattle.std.proofs.Common.{refl}
+use Rattle.realm_core.proofs.Words.{refl}
 use Rattle.realm_core.proofs.Performed.{told_records}
 use Rattle.realm_core.proofs.events.done.Goals as goal
 

@@ -1,11 +1,6 @@
-use Rattle.std.proofs.Common.{◌≡◌, true, false, sym, ap, ◌∙◌}
-use Rattle.scope_rules.specs.declared.types.events.Event.TheVariants.{BeginClose}
-use Rattle.scope_rules.specs.Replies.{Realm}
-use Rattle.scope_rules.specs.Scopes.{closed}
-use Rattle.share_ledger.specs.Steps.{history_of}
-use Rattle.realm_core.specs.Calls.{history_seen}
-use Rattle.realm_core.specs.Cores.{CoreValue}
-use Rattle.realm_core.proofs.Kept.{begun_recorded, begun_already, did_record, did_find, did_refuse, refused_sure, closed_sure}
+use Rattle.std.proofs.Common.{◌∙◌, ◌≡◌, ap, false, sym, true}
+use Rattle.realm_core.specs.{BeginClose, CoreValue, Realm, closed, history_of, history_seen}
+use Rattle.realm_core.proofs.Kept.{begun_already, begun_recorded, closed_sure, did_find, did_record, did_refuse, refused_sure}
 use Rattle.realm_core.proofs.holds.begin.Goals as goal
 
 pub returns-in-Ok-Recorded-clause-answer : goal.returns-in-Ok-Recorded-clause-answer

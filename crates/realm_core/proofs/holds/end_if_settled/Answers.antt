@@ -1,7 +1,5 @@
-use Rattle.std.proofs.Common.{None, Some, ap, subst}
-use Rattle.scope_rules.specs.Replies.{Realm}
-use Rattle.realm_core.specs.Cores.{CoreValue}
-use Rattle.realm_core.specs.Waiting.{FoundUnsettled}
+use Rattle.realm_core.specs.{CoreValue, FoundUnsettled, Realm}
+use Rattle.realm_core.proofs.Words.{None, Some, ap, subst}
 use Rattle.realm_core.proofs.Kept.{can_close_now, waits_on}
 use Rattle.realm_core.proofs.holds.end_if_settled.Goals as goal
 

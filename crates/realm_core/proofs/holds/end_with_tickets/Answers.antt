@@ -1,11 +1,6 @@
-use Rattle.std.proofs.Common.{◌≡◌, sym, ap, subst, All}
-use Rattle.std.proofs.lemmas.List.Sorted.{All-permutation, IsPermutation-sym}
-use Rattle.scope_rules.specs.Replies.{Realm}
-use Rattle.share_ledger.specs.Steps.{history_of}
-use Rattle.realm_core.specs.Cores.{CoreValue}
-use Rattle.share_ledger.specs.Values.{TicketValue}
-use Rattle.realm_core.specs.Reports.{numbers}
-use Rattle.realm_core.specs.Tickets.{AreTicketsOf, BearsOut}
+use Rattle.std.proofs.Common.{◌≡◌, All, ap, subst, sym}
+use Rattle.realm_core.specs.{AreTicketsOf, BearsOut, CoreValue, Realm, TicketValue, history_of, numbers}
+use Rattle.realm_core.proofs.Words.{All-permutation, IsPermutation-sym}
 use Rattle.realm_core.proofs.Shown.{tickets_shown}
 use Rattle.realm_core.proofs.holds.end_with_tickets.Goals as goal
 

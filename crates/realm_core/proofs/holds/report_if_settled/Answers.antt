@@ -1,8 +1,6 @@
-use Rattle.std.proofs.Common.{None, Some, ap, refl, subst}
-use Rattle.scope_rules.specs.Replies.{Realm}
-use Rattle.realm_core.specs.Cores.{CoreValue}
-use Rattle.realm_core.specs.Waiting.{FoundUnsettled}
-use Rattle.realm_core.proofs.Kept.{can_close_now, waits_on, reported_or_left}
+use Rattle.realm_core.specs.{CoreValue, FoundUnsettled, Realm}
+use Rattle.realm_core.proofs.Words.{None, Some, ap, refl, subst}
+use Rattle.realm_core.proofs.Kept.{can_close_now, reported_or_left, waits_on}
 use Rattle.realm_core.proofs.holds.report_if_settled.Goals as goal
 
 pub end_with_tickets-requires-clause-can : goal.end_with_tickets-requires-clause-can

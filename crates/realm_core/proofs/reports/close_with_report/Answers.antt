@@ -1,9 +1,5 @@
-use Rattle.std.proofs.Common.{◌≡◌, Some, option_map, refl, sym, subst}
-use Rattle.scope_log.specs.Log.{log}
-use Rattle.scope_rules.specs.Replies.{Realm}
-use Rattle.share_ledger.specs.Steps.{history_of}
-use Rattle.realm_core.specs.Ends.{InEndOrder, Ends}
-use Rattle.realm_core.specs.Reports.{numbers, with_end, ArePrepared}
+use Rattle.std.proofs.Common.{◌≡◌, Some, option_map, refl, subst, sym}
+use Rattle.realm_core.specs.{ArePrepared, Ends.Ends, InEndOrder, Realm, history_of, log, numbers, with_end}
 use Rattle.realm_core.proofs.Reporting.{ends_named, report_so}
 use Rattle.realm_core.proofs.reports.close_with_report.Goals as goal
 

@@ -1,6 +1,6 @@
-use Rattle.std.proofs.Common.{◌<◌, reverse, sym, subst}
-use Rattle.realm_core.proofs.Preparing.{IsPreparing, preparing_begins, next_opened, next_begun, preparing_goes_on, one_more, all_ordered, all_prepared}
-use Rattle.realm_core.proofs.Settling.{left, left_falls}
+use Rattle.std.proofs.Common.{◌<◌, reverse, subst, sym}
+use Rattle.realm_core.proofs.{Preparing.IsPreparing, Preparing.all_ordered, Preparing.all_prepared, Preparing.next_begun, Preparing.next_opened, Preparing.one_more, Preparing.preparing_begins, Preparing.preparing_goes_on}
+use Rattle.realm_core.proofs.{Settling.left, Settling.left_falls}
 use Rattle.realm_core.proofs.reports.nested_logs.Goals as goal
 
 pub loop-next-init : goal.loop-next-init

@@ -1,7 +1,6 @@
 -- What was made so far, the latest first.
-use Rattle.std.proofs.Common.{reverse}
-use Rattle.realm_core.proofs.Preparing.{IsPreparing}
-use Rattle.realm_core.proofs.Settling.{left}
+use Rattle.realm_core.proofs.Words.{reverse}
+use Rattle.realm_core.proofs.{Preparing.IsPreparing, Settling.left}
 use Rattle.realm_core.proofs.reports.nested_logs.Given as goal
 
 abbrev pub invariant-loop-next : goal.invariant-loop-next

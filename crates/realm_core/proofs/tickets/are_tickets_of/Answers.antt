@@ -1,8 +1,6 @@
-use Rattle.std.proofs.Common.{◌<◌, ◌==◌, sym, subst, arith}
-use Rattle.std.proofs.lemmas.Bool.{eqb-true, eq-eqb, both_ways}
-use Rattle.std.proofs.lemmas.List.Sorted.{IsPermutation-trans}
-use Rattle.realm_core.proofs.Gathering.{IsGathering, gathering_begins, gathering_goes_on, missing_one, all_found, one_left}
-use Rattle.realm_core.proofs.Settling.{left, left_falls}
+use Rattle.std.proofs.Common.{◌<◌, ◌==◌, arith, subst, sym}
+use Rattle.realm_core.proofs.Words.{IsPermutation-trans, both_ways, eq-eqb, eqb-true}
+use Rattle.realm_core.proofs.{Gathering.IsGathering, Gathering.all_found, Gathering.gathering_begins, Gathering.gathering_goes_on, Gathering.missing_one, Gathering.one_left, Settling.left, Settling.left_falls}
 use Rattle.realm_core.proofs.tickets.are_tickets_of.Goals as goal
 
 pub loop-next-init : goal.loop-next-init

@@ -1,6 +1,5 @@
 -- The tickets of the scopes so far are at their places.
-use Rattle.realm_core.proofs.Gathering.{IsGathering}
-use Rattle.realm_core.proofs.Settling.{left}
+use Rattle.realm_core.proofs.{Gathering.IsGathering, Settling.left}
 use Rattle.realm_core.proofs.tickets.are_tickets_of.Given as goal
 
 abbrev pub invariant-loop-next : goal.invariant-loop-next

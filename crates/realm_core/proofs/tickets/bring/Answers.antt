@@ -1,6 +1,5 @@
-use Rattle.std.proofs.Common.{◌≡◌, Some, length, slice_get, refl, sym, ◌∙◌, subst, arith}
-use Rattle.std.proofs.lemmas.List.Sorted.{IsPermutation-swap}
-use Rattle.std.proofs.lemmas.Option.{slice_get_within, slice_get_read, get_or_from_slice_get}
+use Rattle.std.proofs.Common.{◌∙◌, ◌≡◌, Some, arith, length, refl, slice_get, subst, sym}
+use Rattle.realm_core.proofs.Words.{IsPermutation-swap, get_or_from_slice_get, slice_get_read, slice_get_within}
 use Rattle.realm_core.proofs.tickets.bring.Goals as goal
 
 pub returns-clause-same : goal.returns-clause-same

@@ -1,7 +1,6 @@
-use Rattle.std.proofs.Common.{◌≡◌, false, length, slice_get, refl, sym, ◌∙◌, ap, subst, arith, inl, inr}
-use Rattle.std.proofs.lemmas.Bool.{cases_lt}
-use Rattle.std.proofs.lemmas.Option.{slice_get_read, slice_get_within}
-use Rattle.realm_core.specs.Tickets.{is_ended_ticket_of}
+use Rattle.std.proofs.Common.{◌∙◌, ◌≡◌, ap, arith, false, inl, inr, length, refl, slice_get, subst, sym}
+use Rattle.realm_core.specs.{is_ended_ticket_of}
+use Rattle.realm_core.proofs.Words.{cases_lt, slice_get_read, slice_get_within}
 use Rattle.realm_core.proofs.tickets.find_from.Goals as goal
 
 pub returns-then-is_ended_ticket_of : goal.returns-then-is_ended_ticket_of

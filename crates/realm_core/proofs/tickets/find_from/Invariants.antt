@@ -1,7 +1,6 @@
 -- None was found so far.
-use Rattle.std.proofs.Common.{◌≡◌, ℕ, ◌<◌, ◌≤◌, false, Some, slice_get}
-use Rattle.share_ledger.specs.Values.{TicketValue}
-use Rattle.realm_core.specs.Tickets.{is_ended_ticket_of}
+use Rattle.std.proofs.Common.{ℕ, ◌<◌, ◌≡◌, ◌≤◌, Some, false, slice_get}
+use Rattle.realm_core.specs.{TicketValue, is_ended_ticket_of}
 use Rattle.realm_core.proofs.tickets.find_from.Given as goal
 
 abbrev pub invariant-loop-at : goal.invariant-loop-at

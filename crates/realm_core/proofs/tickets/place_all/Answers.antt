@@ -1,8 +1,6 @@
-use Rattle.std.proofs.Common.{◌≡◌, Some, length, ◌+◌, take, get_or, slice_get, sym, ap, ◌∙◌, subst, arith}
-use Rattle.std.proofs.Math.Seq.{take-length}
-use Rattle.std.proofs.lemmas.List.Sorted.{IsPermutation-trans}
-use Rattle.std.proofs.lemmas.Option.{slice_get-get_or}
-use Rattle.realm_core.proofs.Placing.{IsPlacing, placing_goes_on, placing_misses, placing_ends}
+use Rattle.std.proofs.Common.{◌+◌, ◌∙◌, ◌≡◌, Some, ap, arith, get_or, length, slice_get, subst, sym, take}
+use Rattle.realm_core.proofs.Words.{IsPermutation-trans, slice_get-get_or, take-length}
+use Rattle.realm_core.proofs.Placing.{IsPlacing, placing_ends, placing_goes_on, placing_misses}
 use Rattle.realm_core.proofs.tickets.place_all.Goals as goal
 
 pub returns-in_default-clause-same : goal.returns-in_default-clause-same

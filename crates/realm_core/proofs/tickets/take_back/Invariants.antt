@@ -1,7 +1,6 @@
 -- Those that were taken back are borne out.
-use Rattle.std.proofs.Common.{◌≡◌, List, ◌++◌, All, length}
-use Rattle.share_ledger.specs.Values.{TicketValue}
-use Rattle.realm_core.specs.Tickets.{BearsOut}
+use Rattle.std.proofs.Common.{◌++◌, ◌≡◌, All, List, length}
+use Rattle.realm_core.specs.{BearsOut, TicketValue}
 use Rattle.realm_core.proofs.tickets.take_back.Given as goal
 
 abbrev pub invariant-loop-ticket : goal.invariant-loop-ticket

@@ -1,5 +1,5 @@
-use Rattle.std.proofs.Common.{◌<◌, sym, ◌∙◌, subst}
-use Rattle.realm_core.proofs.Settling.{AreMet, met_on, met_busy, left, left_falls}
+use Rattle.std.proofs.Common.{◌<◌, ◌∙◌, subst, sym}
+use Rattle.realm_core.proofs.Settling.{AreMet, left, left_falls, met_busy, met_on}
 use Rattle.realm_core.proofs.waiting.unsettled.Goals as goal
 
 pub loop-next-smaller : goal.loop-next-smaller

@@ -1,6 +1,6 @@
 -- What is kept is ready for the event, as each of its calls wants it.
-use Rattle.std.proofs.Common.{subst}
-use Rattle.scope_index.specs.Events.{IsReadyAt}
+use Rattle.scope_index.specs.{IsReadyAt}
+use Rattle.scope_index.proofs.Words.{subst}
 use Rattle.scope_index.proofs.applying.apply.Goals as goal
 
 pub open-requires : goal.open-requires

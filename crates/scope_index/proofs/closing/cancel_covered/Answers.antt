@@ -1,7 +1,7 @@
 -- Each turn cancels a scope and goes on below it.
-use Rattle.std.proofs.Common.{◌<◌, None, sym, subst, ◌∙◌, arith}
-use Rattle.scope_rows.specs.Steps.{walk_length}
-use Rattle.scope_index.proofs.Covering.{IsWalked, walk_start, walk_on, walk_end, walk_falls, here_row, here_latest, onward_at, onward_past}
+use Rattle.std.proofs.Common.{◌<◌, ◌∙◌, None, arith, subst, sym}
+use Rattle.scope_index.specs.{walk_length}
+use Rattle.scope_index.proofs.Covering.{IsWalked, here_latest, here_row, onward_at, onward_past, walk_end, walk_falls, walk_on, walk_start}
 use Rattle.scope_index.proofs.closing.cancel_covered.Goals as goal
 
 pub loop-next-init : goal.loop-next-init

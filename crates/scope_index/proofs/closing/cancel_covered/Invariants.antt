@@ -1,5 +1,5 @@
 -- The walk goes down, to lower numbers.
-use Rattle.scope_rows.specs.Steps.{walk_length}
+use Rattle.scope_index.specs.{walk_length}
 use Rattle.scope_index.proofs.Covering.{IsWalked}
 use Rattle.scope_index.proofs.closing.cancel_covered.Given as goal
 

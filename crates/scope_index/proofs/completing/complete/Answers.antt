@@ -1,5 +1,5 @@
-use Rattle.std.proofs.Common.{true, false, refl}
-use Rattle.scope_index.proofs.Counting.{few_counted, completed_so}
+use Rattle.scope_index.proofs.Words.{false, refl, true}
+use Rattle.scope_index.proofs.Counting.{completed_so, few_counted}
 use Rattle.scope_index.proofs.completing.complete.Goals as goal
 
 pub fires_by-requires : goal.fires_by-requires

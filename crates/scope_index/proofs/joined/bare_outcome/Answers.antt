@@ -1,6 +1,6 @@
 -- What the parts say is what the join answered, without the lists.
-use Rattle.std.proofs.Common.{option_map, Some, ap, sym, ◌∙◌}
-use Rattle.scope_index.specs.Bare.{bare_of}
+use Rattle.scope_index.specs.{bare_of}
+use Rattle.scope_index.proofs.Words.{◌∙◌, Some, ap, option_map, sym}
 use Rattle.scope_index.proofs.joined.bare_outcome.Goals as goal
 
 pub returns : goal.returns

@@ -1,5 +1,5 @@
 -- The parts decide what the join answered.
-use Rattle.std.proofs.Common.{option_map, ap, sym, ◌∙◌}
+use Rattle.scope_index.proofs.Words.{◌∙◌, ap, option_map, sym}
 use Rattle.scope_index.proofs.OutcomesTold.{outcome_told}
 use Rattle.scope_index.proofs.joined.parts_of.Goals as goal
 

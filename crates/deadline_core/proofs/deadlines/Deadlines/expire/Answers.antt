@@ -1,10 +1,8 @@
 -- Each turn removes the next scope that is due.
-use Rattle.std.proofs.Common.{ap, ◌∙◌, cond, eqb, None, subst}
-use Rattle.std.specs.List.{list_any}
-use Rattle.std.specs.FinMap as map
-use Rattle.std.proofs.lemmas.List.{take_all}
-use Rattle.deadline_core.specs.Moments.{IsDueInOrder}
+use Rattle.deadline_core.specs.{IsDueInOrder, list_any}
+use Rattle.deadline_core.proofs.Words.{◌∙◌, None, ap, cond, eqb, subst, take_all}
 use Rattle.deadline_core.proofs.Due.{left_of_due, one_less}
+use Rattle.std.specs.FinMap as map
 use Rattle.deadline_core.proofs.deadlines.Deadlines.expire.Goals as goal
 
 pub loop-scope-preserved : goal.loop-scope-preserved

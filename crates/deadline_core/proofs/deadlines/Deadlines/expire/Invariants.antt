@@ -1,5 +1,5 @@
-use Rattle.std.proofs.Common.{◌≡◌, ℕ, cond, eqb, take, None}
-use Rattle.std.specs.List.{list_any}
+use Rattle.std.proofs.Common.{ℕ, ◌≡◌, None, cond, eqb, take}
+use Rattle.deadline_core.specs.{list_any}
 use Rattle.std.specs.FinMap as map
 use Rattle.deadline_core.proofs.deadlines.Deadlines.expire.Given as goal
 

@@ -1,8 +1,6 @@
 -- Neither has a deadline of any scope.
-use Rattle.std.proofs.Common.{ap, sym, ◌∙◌}
-use Rattle.std.specs.Ordering.{nat_cmp}
-use Rattle.std.specs.Map.{lookup}
-use Rattle.std.specs.BTreeMap.{is_at}
+use Rattle.deadline_core.specs.{is_at, lookup, nat_cmp}
+use Rattle.deadline_core.proofs.Words.{◌∙◌, ap, sym}
 use Rattle.std.specs.FinMap as map
 use Rattle.deadline_core.proofs.deadlines.Deadlines.new.Goals as goal
 

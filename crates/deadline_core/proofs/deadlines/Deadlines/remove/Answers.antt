@@ -1,6 +1,6 @@
 -- Both lose the scope.
 use Rattle.std.specs.BTreeMap as tree
-use Rattle.std.specs.Ordering.{nat_cmp}
+use Rattle.deadline_core.specs.{nat_cmp}
 use Rattle.deadline_core.proofs.Views.{both_removed}
 use Rattle.deadline_core.proofs.deadlines.Deadlines.remove.Goals as goal
 

@@ -1,10 +1,9 @@
 -- Both are given the deadline. If the map refuses, the scope had none, and the order gives it back.
-use Rattle.std.proofs.Common.{ap, sym, ◌∙◌}
-use Rattle.std.specs.Ordering.{nat_cmp}
-use Rattle.std.specs.Map.{lookup}
+use Rattle.deadline_core.specs.{lookup, nat_cmp}
+use Rattle.deadline_core.proofs.Words.{◌∙◌, ap, sym}
+use Rattle.deadline_core.proofs.Views.{both_set, given_back, set_and_removed}
 use Rattle.std.specs.BTreeMap as tree
 use Rattle.std.specs.FinMap as map
-use Rattle.deadline_core.proofs.Views.{both_set, set_and_removed, given_back}
 use Rattle.deadline_core.proofs.deadlines.Deadlines.set.Goals as goal
 
 pub invariant_of-self-in-Ok : goal.invariant_of-self-in-Ok

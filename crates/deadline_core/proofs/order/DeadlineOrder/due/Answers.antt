@@ -1,10 +1,8 @@
 -- The order lists the deadlines, and so its first scopes are those that are due.
 use Rattle.std.proofs.Common.{◌≡◌, subst, sym}
-use Rattle.std.proofs.lemmas.Result.{IfOk-weaker}
-use Rattle.deadline_core.specs.Ordered.{scopes_up_to}
-use Rattle.deadline_core.specs.Moments.{IsDueInOrder}
-use Rattle.deadline_core.proofs.Pairs.{listed_of}
-use Rattle.deadline_core.proofs.Due.{due_in_order}
+use Rattle.deadline_core.specs.{IsDueInOrder, scopes_up_to}
+use Rattle.deadline_core.proofs.Words.{IfOk-weaker}
+use Rattle.deadline_core.proofs.{Due.due_in_order, Pairs.listed_of}
 use Rattle.deadline_core.proofs.order.DeadlineOrder.due.Goals as goal
 
 pub returns : goal.returns

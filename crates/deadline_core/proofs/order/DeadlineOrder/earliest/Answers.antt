@@ -1,16 +1,8 @@
 -- The first pair of the order is the first deadline, and an order without one leaves no deadline.
-use Rattle.std.proofs.Common.{◌≡◌, ℕ, Bool, true, false, Bor, Option, Some, None, subst, List, [], ◌∷◌, length, refl, sym, arith}
-use Rattle.std.specs.Ordering.{is_gt}
+use Rattle.std.proofs.Common.{[], ℕ, ◌∷◌, ◌≡◌, Bool, Bor, List, None, Option, Some, arith, false, length, refl, subst, sym, true}
+use Rattle.deadline_core.specs.{IfSome, IsFirst, Moments.Moments, is_at, is_gt, list_any, option_copied, pair_cmp}
+use Rattle.deadline_core.proofs.{Due.has, First.IfNone_copied, First.empty_order, First.first_of_order, Listing.Lists, Pairs.listed_of}
 use Rattle.std.specs.FinMap as map
-use Rattle.std.specs.List.{list_any}
-use Rattle.std.specs.Option.{IfSome, option_copied}
-use Rattle.std.specs.BTreeMap.{is_at}
-use Rattle.deadline_core.specs.Ordered.{pair_cmp}
-use Rattle.deadline_core.proofs.First.{first_of_order, empty_order, IfNone_copied}
-use Rattle.deadline_core.proofs.Due.{has}
-use Rattle.deadline_core.proofs.Pairs.{listed_of}
-use Rattle.deadline_core.proofs.Listing.{Lists}
-use Rattle.deadline_core.specs.Moments.{Moments, IsFirst}
 use Rattle.deadline_core.proofs.order.DeadlineOrder.earliest.Goals as goal
 
 first_copied : (r : Option (Bor (ℕ × ℕ))) (o : Option (ℕ × ℕ)) (has : ℕ → ℕ → Bool) (m : Moments) → Lists has (map.get m) → o ≡ option_copied r

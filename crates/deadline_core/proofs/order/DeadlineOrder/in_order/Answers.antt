@@ -1,7 +1,6 @@
-use Rattle.std.proofs.Common.{sym, subst}
-use Rattle.deadline_core.specs.Moments.{AreInOrder}
-use Rattle.deadline_core.proofs.Pairs.{listed_of}
-use Rattle.deadline_core.proofs.InOrder.{pairs_in_order}
+use Rattle.deadline_core.specs.{AreInOrder}
+use Rattle.deadline_core.proofs.Words.{subst, sym}
+use Rattle.deadline_core.proofs.{InOrder.pairs_in_order, Pairs.listed_of}
 use Rattle.deadline_core.proofs.order.DeadlineOrder.in_order.Goals as goal
 
 pub returns : goal.returns

@@ -1,9 +1,7 @@
 -- An index without deadlines has none that is due.
-use Rattle.std.proofs.Common.{◌≡◌, ℕ, false, ap, subst, sym, ◌∙◌}
-use Rattle.std.specs.Ordering.{nat_cmp}
-use Rattle.std.specs.Option.{IfNone}
+use Rattle.std.proofs.Common.{ℕ, ◌∙◌, ◌≡◌, ap, false, subst, sym}
+use Rattle.deadline_core.specs.{IfNone, Moments.Moments, is_due, is_past, nat_cmp}
 use Rattle.std.specs.FinMap as map
-use Rattle.deadline_core.specs.Moments.{Moments, is_past, is_due}
 use Rattle.deadline_core.proofs.order.DeadlineOrder.pop_expired.Goals as goal
 
 none_due : (m : Moments) (now scope : ℕ) → m ≡ map.empty → is_due m now scope ≡ false

@@ -1,8 +1,7 @@
 -- The order loses the scope's pair.
-use Rattle.std.proofs.Common.{sym, ◌∙◌}
+use Rattle.deadline_core.proofs.Words.{◌∙◌, sym}
+use Rattle.deadline_core.proofs.{Due.has, Pairs.one_of_lists, Pairs.pairs_stand_for, Pairs.remove_none, Pairs.taken}
 use Rattle.std.specs.FinMap as map
-use Rattle.deadline_core.proofs.Pairs.{one_of_lists, pairs_stand_for, taken, remove_none}
-use Rattle.deadline_core.proofs.Due.{has}
 use Rattle.deadline_core.proofs.order.DeadlineOrder.remove.Goals as goal
 
 pub invariant_of-self : goal.invariant_of-self

@@ -1,9 +1,7 @@
 -- The order gains the new pair before it loses the old one.
-use Rattle.std.proofs.Common.{sym, ◌∙◌}
+use Rattle.deadline_core.proofs.Words.{◌∙◌, sym}
+use Rattle.deadline_core.proofs.{Due.has, Pairs.one_of_lists, Pairs.pairs_stand_for, Pairs.set_again, Pairs.set_first, Views.insert_same, Views.other_moment, Views.same_moment}
 use Rattle.std.specs.FinMap as map
-use Rattle.deadline_core.proofs.Views.{insert_same, same_moment, other_moment}
-use Rattle.deadline_core.proofs.Pairs.{one_of_lists, pairs_stand_for, set_first, set_again}
-use Rattle.deadline_core.proofs.Due.{has}
 use Rattle.deadline_core.proofs.order.DeadlineOrder.set.Goals as goal
 
 pub returns-then-eq-clause-set : goal.returns-then-eq-clause-set

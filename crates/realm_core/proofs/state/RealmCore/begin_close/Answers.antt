@@ -1,11 +1,7 @@
 -- The beginning of a close wants no memory.
-use Rattle.std.proofs.Common.{ℕ, Bool, refl, sym, subst}
-use Rattle.scope_rules.specs.Replies.{recorded}
-use Rattle.scope_rules.specs.declared.types.events.Event.TheVariants.{BeginClose}
-use Rattle.share_ledger.specs.declared.steps.RealmStep.TheVariants.{Happened}
-use Rattle.realm_core.specs.Calls.{DidPerform}
-use Rattle.realm_core.specs.Telling.{Stepped}
-use Rattle.realm_core.proofs.ToldCalls.{records_surely, recorded_told}
+use Rattle.realm_core.specs.{BeginClose, DidPerform, Happened, Stepped, recorded}
+use Rattle.realm_core.proofs.Words.{ℕ, Bool, refl, subst, sym}
+use Rattle.realm_core.proofs.ToldCalls.{recorded_told, records_surely}
 use Rattle.realm_core.proofs.state.RealmCore.begin_close.Goals as goal
 
 pub returns-clause-answer : goal.returns-clause-answer

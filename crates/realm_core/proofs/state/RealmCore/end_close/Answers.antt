@@ -1,15 +1,8 @@
 -- Where the close can end, it does, and nothing refuses it.
-use Rattle.std.proofs.Common.{◌≡◌, ℕ, refl, sym, ap, subst, ◌∙◌, List, Ok}
-use Rattle.scope_rules.specs.declared.types.events.Event.TheVariants.{EndClose}
-use Rattle.share_ledger.specs.declared.steps.RealmStep.{RealmStep}
-use Rattle.share_ledger.specs.Steps.{history_of}
-use Rattle.share_ledger.proofs.Histories.{legal_history}
-use Rattle.scope_checks.specs.declared.event_replies.EventReply.{EventReply}
-use Rattle.realm_core.specs.Calls.{DidPerform}
-use Rattle.realm_core.specs.Cores.{CoreValue}
-use Rattle.realm_core.specs.Endings.{CanEnd}
-use Rattle.realm_core.proofs.EndPasses.{end_passes}
-use Rattle.realm_core.proofs.Performed.{refused_surely, closed_told}
+use Rattle.std.proofs.Common.{ℕ, ◌∙◌, ◌≡◌, List, Ok, ap, refl, subst, sym}
+use Rattle.realm_core.specs.{CanEnd, CoreValue, DidPerform, EndClose, EventReply, RealmStep, history_of}
+use Rattle.realm_core.proofs.Words.{legal_history}
+use Rattle.realm_core.proofs.{EndPasses.end_passes, Performed.closed_told, Performed.refused_surely}
 use Rattle.realm_core.proofs.state.RealmCore.end_close.Goals as goal
 
 pub returns-in_err-verdict-clause-sure : goal.returns-in_err-verdict-clause-sure

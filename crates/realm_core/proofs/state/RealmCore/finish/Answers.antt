@@ -1,17 +1,8 @@
 -- The end of a task that runs fits its label, and is refused for the task's open scopes alone.
-use Rattle.std.proofs.Common.{◌≡◌, ℕ, None, Ok, refl, ap, ◌∙◌, subst}
-use Rattle.scope_rules.specs.declared.types.events.Event.TheVariants.{Finish}
-use Rattle.scope_rules.specs.History.{History}
-use Rattle.scope_rules.specs.Scopes.{innermost}
-use Rattle.scope_rules.specs.Legal.{Accepts}
-use Rattle.share_ledger.specs.declared.steps.RealmStep.TheVariants.{Happened}
-use Rattle.share_ledger.specs.declared.steps.Holder.TheVariants.{TokenOf, TicketOf}
-use Rattle.share_ledger.specs.Values.{TicketValue}
-use Rattle.realm_core.proofs.Steps.{looks_now, adds_now}
-use Rattle.realm_core.proofs.Performed.{answered, answers_so, refused_by, refuses_now}
-use Rattle.realm_core.proofs.Taken.{fits_now, runs_now, only_structure, tied_taken, adds_taken}
-use Rattle.realm_core.proofs.Started.{runs_on}
-use Rattle.realm_core.proofs.Unopened.{innermost_still, may_finish}
+use Rattle.std.proofs.Common.{ℕ, ◌∙◌, ◌≡◌, None, Ok, ap, refl, subst}
+use Rattle.realm_core.specs.{Accepts, Finish, Happened, History, TicketOf, TicketValue, TokenOf, innermost}
+use Rattle.realm_core.proofs.{Performed.answered, Performed.answers_so, Performed.refused_by, Performed.refuses_now, Started.runs_on, Steps.adds_now, Steps.looks_now, Taken.adds_taken, Taken.fits_now, Taken.only_structure}
+use Rattle.realm_core.proofs.{Taken.runs_now, Taken.tied_taken, Unopened.innermost_still, Unopened.may_finish}
 use Rattle.realm_core.proofs.state.RealmCore.finish.Goals as goal
 
 pub done-requires-clause-fits : goal.done-requires-clause-fits

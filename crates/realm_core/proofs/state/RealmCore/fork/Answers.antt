@@ -1,11 +1,8 @@
 -- A fork that is recorded gives the task that the rules say.
-use Rattle.std.proofs.Common.{◌≡◌, refl, ap, Ok}
-use Rattle.scope_rules.specs.declared.types.answers.ForkReply.TheVariants.{Thread, Never}
-use Rattle.scope_rules.specs.declared.types.events.Event.TheVariants.{Fork}
-use Rattle.share_ledger.specs.declared.steps.RealmStep.TheVariants.{Happened}
-use Rattle.scope_checks.specs.declared.event_replies.EventReply.TheVariants.{Task}
-use Rattle.share_ledger.specs.Values.{TicketValue}
-use Rattle.realm_core.proofs.Performed.{tied_performed, performed_now, fork_told}
+use Rattle.std.proofs.Common.{◌≡◌, Ok, ap, refl}
+use Rattle.scope_rules.specs.declared.types.answers.ForkReply.TheVariants.{Never, Thread}
+use Rattle.realm_core.specs.{Fork, Happened, Task, TicketValue}
+use Rattle.realm_core.proofs.Performed.{fork_told, performed_now, tied_performed}
 use Rattle.realm_core.proofs.state.RealmCore.fork.Goals as goal
 
 pub invariant_of-self : goal.invariant_of-self

@@ -1,8 +1,6 @@
-use Rattle.std.proofs.Common.{refl}
-use Rattle.scope_rules.specs.declared.types.events.Event.TheVariants.{Join}
-use Rattle.share_ledger.specs.declared.steps.RealmStep.TheVariants.{Happened}
-use Rattle.realm_core.proofs.Performed.{answers_so, tied_after}
-use Rattle.realm_core.proofs.Previewed.{joins_now}
+use Rattle.realm_core.specs.{Happened, Join}
+use Rattle.realm_core.proofs.Words.{refl}
+use Rattle.realm_core.proofs.{Performed.answers_so, Performed.tied_after, Previewed.joins_now}
 use Rattle.realm_core.proofs.state.RealmCore.join.Goals as goal
 
 pub invariant_of-self : goal.invariant_of-self

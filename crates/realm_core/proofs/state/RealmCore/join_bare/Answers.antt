@@ -1,10 +1,8 @@
-use Rattle.std.proofs.Common.{refl}
-use Rattle.scope_rules.specs.declared.types.events.Event.TheVariants.{Join}
-use Rattle.share_ledger.specs.declared.steps.RealmStep.TheVariants.{Happened}
-use Rattle.realm_core.proofs.Performed.{answers_so, tied_after}
-use Rattle.realm_core.proofs.BareJoins.{joins_bare_now, outcome_passes, refused_bare_now}
+use Rattle.realm_core.specs.{Happened, Join}
+use Rattle.realm_core.proofs.Words.{refl}
+use Rattle.realm_core.proofs.{BareJoins.joins_bare_now, BareJoins.outcome_passes, BareJoins.refused_bare_now, Performed.answers_so, Performed.tied_after, state.RealmCore.join_bare.Goals.in-Err}
+use Rattle.realm_core.proofs.{state.RealmCore.join_bare.Goals.in-Ok}
 use Rattle.realm_core.proofs.state.RealmCore.join_bare.Goals as goal
-use Rattle.realm_core.proofs.state.RealmCore.join_bare.Goals.{in-Ok, in-Err}
 
 pub invariant_of-self : goal.invariant_of-self
 invariant_of-self g c =

@@ -1,9 +1,5 @@
-use Rattle.std.proofs.Common.{◌≡◌, ap, ◌∙◌, subst}
-use Rattle.atomic_table.specs.Seated.{TableId}
-use Rattle.share_ledger.specs.Values.{KeeperValue}
-use Rattle.realm_core.specs.Cores.{Tied}
-use Rattle.scope_rules.specs.Origin.{the_start}
-use Rattle.scope_rules.specs.Replies.{starting}
+use Rattle.std.proofs.Common.{◌∙◌, ◌≡◌, ap, subst}
+use Rattle.realm_core.specs.{KeeperValue, TableId, Tied, starting, the_start}
 use Rattle.realm_core.proofs.Steps.{tied_at_start}
 use Rattle.realm_core.proofs.state.RealmCore.new.Goals as goal
 

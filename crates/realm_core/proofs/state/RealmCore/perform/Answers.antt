@@ -1,6 +1,6 @@
 -- What the realm made of the event is what the keeper was told.
-use Rattle.std.proofs.Common.{refl}
-use Rattle.realm_core.proofs.Performed.{recorded_fits, tied_performed, performed_now}
+use Rattle.realm_core.proofs.Words.{refl}
+use Rattle.realm_core.proofs.Performed.{performed_now, recorded_fits, tied_performed}
 use Rattle.realm_core.proofs.state.RealmCore.perform.Goals as goal
 
 pub perform-result-requires : goal.perform-result-requires

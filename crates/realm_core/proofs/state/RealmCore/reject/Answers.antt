@@ -1,7 +1,6 @@
-use Rattle.std.proofs.Common.{◌≡◌, true, ap, ◌∙◌}
-use Rattle.std.specs.Prelude.{is_ok}
-use Rattle.scope_rules.specs.declared.types.events.Event.TheVariants.{Reject}
-use Rattle.realm_core.proofs.Taken.{accepted_ok, reject_accepted, tied_taken, adds_taken}
+use Rattle.std.proofs.Common.{◌∙◌, ◌≡◌, ap, is_ok, true}
+use Rattle.realm_core.specs.{Reject}
+use Rattle.realm_core.proofs.Taken.{accepted_ok, adds_taken, reject_accepted, tied_taken}
 use Rattle.realm_core.proofs.state.RealmCore.reject.Goals as goal
 
 pub prove-unreachable-requires : goal.prove-unreachable-requires

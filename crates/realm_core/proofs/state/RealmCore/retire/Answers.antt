@@ -1,7 +1,6 @@
-use Rattle.std.proofs.Common.{refl}
-use Rattle.share_ledger.specs.declared.steps.RealmStep.TheVariants.{Retirement}
-use Rattle.scope_rules.specs.Replies.{base_of}
-use Rattle.realm_core.proofs.Performed.{tied_after, does_now, retired_main, retire_passing, base_seen}
+use Rattle.realm_core.specs.{Retirement, base_of}
+use Rattle.realm_core.proofs.Words.{refl}
+use Rattle.realm_core.proofs.Performed.{base_seen, does_now, retire_passing, retired_main, tied_after}
 use Rattle.realm_core.proofs.state.RealmCore.retire.Goals as goal
 
 pub tell_retired-requires-clause-main : goal.tell_retired-requires-clause-main

@@ -1,8 +1,6 @@
-use Rattle.std.proofs.Common.{◌≡◌, true, ap, ◌∙◌}
-use Rattle.std.specs.Prelude.{is_ok}
-use Rattle.scope_rules.specs.declared.types.events.Event.TheVariants.{Start}
-use Rattle.realm_core.proofs.Taken.{accepted_ok, start_accepted, tied_taken, adds_taken}
-use Rattle.realm_core.proofs.Started.{runs_from_start}
+use Rattle.std.proofs.Common.{◌∙◌, ◌≡◌, ap, is_ok, true}
+use Rattle.realm_core.specs.{Start}
+use Rattle.realm_core.proofs.{Started.runs_from_start, Taken.accepted_ok, Taken.adds_taken, Taken.start_accepted, Taken.tied_taken}
 use Rattle.realm_core.proofs.state.RealmCore.start.Goals as goal
 
 pub prove-unreachable-requires : goal.prove-unreachable-requires

@@ -1,7 +1,6 @@
 -- A fitting history goes on by an event that fits.
-use Rattle.std.proofs.Common.{sym, subst}
-use Rattle.scope_rules.specs.Replies.{Realm}
-use Rattle.realm_state.specs.Fits.{FitsEvent}
+use Rattle.realm_state.specs.{FitsEvent, Realm}
+use Rattle.realm_state.proofs.Words.{subst, sym}
 use Rattle.realm_state.proofs.Growing.{fitting_after}
 use Rattle.realm_state.proofs.fitting.FittingRealm.perform.Goals as goal
 

@@ -1,8 +1,6 @@
 -- Heights decide, since the actor owns the scope and it is not closing.
-use Rattle.std.proofs.Common.{sym, ◌∙◌}
-use Rattle.scope_checks.proofs.PassedReadings.{passed_bound, passed_owner}
-use Rattle.realm_state.proofs.NeverOpened.{unbound_alone, same_height}
-use Rattle.realm_state.proofs.There.{env_there}
+use Rattle.realm_state.proofs.Words.{◌∙◌, passed_bound, passed_owner, sym}
+use Rattle.realm_state.proofs.{NeverOpened.same_height, NeverOpened.unbound_alone, There.env_there}
 use Rattle.realm_state.proofs.readings.RealmStateReadings.bound_as_opened.Goals as goal
 
 pub stack_len-requires : goal.stack_len-requires

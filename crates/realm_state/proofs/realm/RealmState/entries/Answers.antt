@@ -1,13 +1,6 @@
 -- What is said at the places of the scope's events, with the mark, are the entries of its log.
-use Rattle.std.proofs.Common.{length, ap, sym, subst, ◌∙◌}
-use Rattle.std.proofs.lemmas.Result.{IfOk-weaker}
-use Rattle.std.specs.List.{filter_map}
-use Rattle.scope_rules.specs.Replies.{Realm}
-use Rattle.scope_rules.proofs.NewScopes.{scope_passed}
-use Rattle.scope_log.specs.Log.{entry_at}
-use Rattle.scope_journal.specs.TrailsOf.{AreTrailsOf}
-use Rattle.scope_journal.proofs.Projected.{each_said}
-use Rattle.scope_journal.proofs.Trailed.{opened_trail}
+use Rattle.realm_state.specs.{AreTrailsOf, Realm, entry_at, filter_map}
+use Rattle.realm_state.proofs.Words.{◌∙◌, IfOk-weaker, ap, each_said, length, opened_trail, scope_passed, subst, sym}
 use Rattle.realm_state.proofs.Said.{entries_made, made_small}
 use Rattle.realm_state.proofs.realm.RealmState.entries.Goals as goal
 

@@ -1,9 +1,7 @@
 -- The log of a scope that may be joined tells what the join would give.
-use Rattle.std.proofs.Common.{◌≡◌, Ok, Some, refl, sym, ap, ◌∙◌}
-use Rattle.scope_rules.specs.declared.types.events.Event.TheVariants.{Join}
-use Rattle.scope_rules.specs.Table.{check_of, row_check}
-use Rattle.scope_rules.proofs.Accepted.{checks_at}
-use Rattle.scope_log.proofs.LogJoins.{preview_told}
+use Rattle.std.proofs.Common.{◌∙◌, ◌≡◌, Ok, Some, ap, refl, sym}
+use Rattle.realm_state.specs.{Join, check_of, row_check}
+use Rattle.realm_state.proofs.Words.{checks_at, preview_told}
 use Rattle.realm_state.proofs.realm.RealmState.join_preview.Goals as goal
 
 pub log-requires : goal.log-requires

@@ -1,6 +1,5 @@
 -- A scope that is there was opened.
-use Rattle.std.proofs.Common.{sym, ◌∙◌}
-use Rattle.scope_rules.proofs.NewScopes.{scope_passed}
+use Rattle.realm_state.proofs.Words.{◌∙◌, scope_passed, sym}
 use Rattle.realm_state.proofs.realm.RealmState.log.Goals as goal
 
 pub unreachable-requires : goal.unreachable-requires

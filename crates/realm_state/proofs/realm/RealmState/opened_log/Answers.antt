@@ -1,5 +1,5 @@
 -- The scope's entries, under what it was opened with, are its log.
-use Rattle.std.proofs.Common.{Some, ap, sym, ◌∙◌}
+use Rattle.realm_state.proofs.Words.{◌∙◌, Some, ap, sym}
 use Rattle.realm_state.proofs.Said.{log_is}
 use Rattle.realm_state.proofs.realm.RealmState.opened_log.Goals as goal
 

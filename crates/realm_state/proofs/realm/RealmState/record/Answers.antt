@@ -1,13 +1,7 @@
 -- What is kept, and the places, are told an event that costs nothing.
-use Rattle.std.proofs.Common.{sym, subst, refl}
-use Rattle.scope_rules.specs.Replies.{Realm}
-use Rattle.scope_rules.specs.Legal.{Accepts}
-use Rattle.scope_index.specs.IndexTables.{IsIndexOf}
-use Rattle.scope_rows.specs.Agreement.{AreRowsOf}
-use Rattle.scope_journal.specs.TrailsOf.{AreTrailsOf}
-use Rattle.scope_journal.proofs.EventRoom.{free_room}
-use Rattle.realm_state.proofs.Ready.{ready_at}
-use Rattle.realm_state.proofs.Noted.{can_tell, free_opens_none, of_next}
+use Rattle.realm_state.specs.{Accepts, AreRowsOf, AreTrailsOf, IsIndexOf, Realm}
+use Rattle.realm_state.proofs.Words.{free_room, refl, subst, sym}
+use Rattle.realm_state.proofs.{Noted.can_tell, Noted.free_opens_none, Noted.of_next, Ready.ready_at}
 use Rattle.realm_state.proofs.realm.RealmState.record.Goals as goal
 
 pub apply-requires : goal.apply-requires

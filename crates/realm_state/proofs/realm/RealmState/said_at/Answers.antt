@@ -1,13 +1,9 @@
 -- Each of the scope's places says its event's entry.
-use Rattle.std.proofs.Common.{◌+◌, IsSome, refl, ap, sym, subst, ◌∙◌, arith}
-use Rattle.std.specs.List.{filter_map}
-use Rattle.scope_rules.specs.Legal.{Legal}
-use Rattle.scope_rules.proofs.NewScopes.{scope_passed}
-use Rattle.scope_rules.proofs.Prefixes.{take_whole}
-use Rattle.scope_log.specs.Log.{entry_at}
-use Rattle.realm_state.proofs.Said.{AreSaid, none_said, place_there, said_next, one_said, not_unsaid}
+use Rattle.std.proofs.Common.{◌+◌, ◌∙◌, IsSome, ap, arith, refl, subst, sym}
+use Rattle.realm_state.specs.{Legal, entry_at, filter_map}
+use Rattle.realm_state.proofs.Words.{scope_passed, take_whole}
+use Rattle.realm_state.proofs.{Said.AreSaid, Said.none_said, Said.not_unsaid, Said.one_said, Said.place_there, Said.said_next, realm.RealmState.said_at.Goals.in-Some+in_ok-push, realm.RealmState.said_at.Goals.in_default}
 use Rattle.realm_state.proofs.realm.RealmState.said_at.Goals as goal
-use Rattle.realm_state.proofs.realm.RealmState.said_at.Goals.{in-Some+in_ok-push, in_default}
 
 pub loop-place-init : goal.loop-place-init
 loop-place-init c = none_said c.args.self.now.history c.args.scope c.args.places.now c.new-entries.result.items c.new-entries.ensures.items

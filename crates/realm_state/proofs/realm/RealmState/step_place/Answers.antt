@@ -1,9 +1,7 @@
 -- The walk comes to the step, or shows that there is none.
-use Rattle.std.proofs.Common.{Some, sym, subst, ◌∙◌}
-use Rattle.scope_rules.specs.Replies.{Realm}
-use Rattle.scope_journal.specs.TrailsOf.{AreTrailsOf}
-use Rattle.scope_journal.proofs.Trailed.{opened_trail}
-use Rattle.realm_state.proofs.StepPlaces.{Walked, step_found, never_opened, is_opened, never_taken, walk_begins, walk_own, walk_within, walk_on, walk_ends}
+use Rattle.realm_state.specs.{AreTrailsOf, Realm}
+use Rattle.realm_state.proofs.Words.{◌∙◌, Some, opened_trail, subst, sym}
+use Rattle.realm_state.proofs.StepPlaces.{Walked, is_opened, never_opened, never_taken, step_found, walk_begins, walk_ends, walk_on, walk_own, walk_within}
 use Rattle.realm_state.proofs.realm.RealmState.step_place.Goals as goal
 
 pub returns-then-is_none-clause-place : goal.returns-then-is_none-clause-place

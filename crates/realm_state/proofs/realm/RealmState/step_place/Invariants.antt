@@ -1,5 +1,5 @@
 -- No event of the scope so far was the step.
-use Rattle.scope_journal.proofs.TrailWalks.{bound}
+use Rattle.realm_state.proofs.Words.{bound}
 use Rattle.realm_state.proofs.StepPlaces.{Walked}
 use Rattle.realm_state.proofs.realm.RealmState.step_place.Given as goal
 

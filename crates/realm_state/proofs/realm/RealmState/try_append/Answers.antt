@@ -1,15 +1,7 @@
 -- What is kept, and the places, are told an event that there is room for.
-use Rattle.std.proofs.Common.{◌≡◌, ◌+◌, ap, sym, subst, ◌∙◌, arith}
-use Rattle.scope_rules.specs.Replies.{Realm}
-use Rattle.scope_rules.specs.Legal.{Accepts, Legal}
-use Rattle.scope_rules.specs.Load.{load, weight}
-use Rattle.scope_index.specs.Events.{HasAppliedAt}
-use Rattle.scope_index.specs.IndexTables.{IsIndexOf}
-use Rattle.scope_rows.specs.Agreement.{AreRowsOf}
-use Rattle.scope_journal.specs.TrailsOf.{AreTrailsOf}
-use Rattle.realm_state.specs.Noting.{HasRoomFor}
-use Rattle.realm_state.proofs.Ready.{ready_at}
-use Rattle.realm_state.proofs.Noted.{can_tell, made_room, on_ok, of_next}
+use Rattle.std.proofs.Common.{◌+◌, ◌∙◌, ◌≡◌, ap, arith, subst, sym}
+use Rattle.realm_state.specs.{Accepts, AreRowsOf, AreTrailsOf, HasAppliedAt, HasRoomFor, IsIndexOf, Legal, Realm, load, weight}
+use Rattle.realm_state.proofs.{Noted.can_tell, Noted.made_room, Noted.of_next, Noted.on_ok, Ready.ready_at}
 use Rattle.realm_state.proofs.realm.RealmState.try_append.Goals as goal
 
 pub apply-requires : goal.apply-requires

@@ -1,7 +1,6 @@
 -- A realm that begins with a base has no events, and so no places of them.
-use Rattle.std.proofs.Common.{sym}
-use Rattle.scope_index.specs.IndexTables.{IsIndexOf}
-use Rattle.scope_journal.specs.TrailsOf.{AreTrailsOf}
+use Rattle.realm_state.specs.{AreTrailsOf, IsIndexOf}
+use Rattle.realm_state.proofs.Words.{sym}
 use Rattle.realm_state.proofs.Noted.{at_base}
 use Rattle.realm_state.proofs.realm.RealmState.with_base.Goals as goal
 

@@ -1,6 +1,5 @@
-use Rattle.std.proofs.Common.{◌≡◌, ◌+◌, ◌-◌, ◌≤◌, length, take, vec_len, vec_capacity}
-use Rattle.scope_rules.specs.Answers.{listing_by}
-use Rattle.scope_index.specs.Answers.{state_in}
+use Rattle.std.proofs.Common.{◌+◌, ◌-◌, ◌≡◌, ◌≤◌, length, take, vec_capacity, vec_len}
+use Rattle.scope_index.specs.{listing_by, state_in}
 use Rattle.scope_index.proofs.answers.IndexedTasksTaskReadings.listing.Given as goal
 
 -- the tasks so far, and room for the others

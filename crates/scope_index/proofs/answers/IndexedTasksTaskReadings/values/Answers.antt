@@ -1,7 +1,6 @@
 -- The value of the next task follows those so far.
-use Rattle.std.proofs.Common.{arith, ap, ◌∙◌}
-use Rattle.scope_rules.specs.Answers.{value_in}
-use Rattle.scope_index.specs.Answers.{state_in}
+use Rattle.scope_index.specs.{state_in, value_in}
+use Rattle.scope_index.proofs.Words.{◌∙◌, ap, arith}
 use Rattle.scope_index.proofs.Lists.{values_next}
 use Rattle.scope_index.proofs.answers.IndexedTasksTaskReadings.values.Goals as goal
 

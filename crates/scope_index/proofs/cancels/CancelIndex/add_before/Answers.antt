@@ -1,6 +1,6 @@
-use Rattle.std.proofs.Common.{◌+◌, ◌<◌, ◌^◌, length, sym, subst}
-use Rattle.deadline_core.proofs.Views.{given_back}
-use Rattle.scope_index.specs.CancelTables.{CancelTable}
+use Rattle.std.proofs.Common.{◌+◌, ◌<◌, ◌^◌, length, subst, sym}
+use Rattle.scope_index.specs.{CancelTable}
+use Rattle.scope_index.proofs.Words.{given_back}
 use Rattle.scope_index.proofs.CancelsKept.{kept_add_before, kept_refused}
 use Rattle.scope_index.proofs.cancels.CancelIndex.add_before.Goals as goal
 

@@ -1,9 +1,7 @@
-use Rattle.std.proofs.Common.{◌-◌, ◌≤◌, ◌<◌, Some, sym, subst, arith, ◌∙◌}
-use Rattle.cancel_tree.specs.Rows.{IsAdded}
-use Rattle.scope_index.specs.CancelTables.{CancelTable, HasRow}
-use Rattle.scope_index.proofs.CancelsKept.{kept_move, kept_over}
+use Rattle.std.proofs.Common.{◌-◌, ◌<◌, ◌∙◌, ◌≤◌, Some, arith, subst, sym}
+use Rattle.scope_index.specs.{CancelTable, HasRow, IsAdded}
+use Rattle.scope_index.proofs.{CancelsKept.kept_move, CancelsKept.kept_over, cancels.CancelIndex.await_deadline.Goals.else-not-has_own_cancel, cancels.CancelIndex.await_deadline.Goals.then-not-has_own_cancel+in_ok-set}
 use Rattle.scope_index.proofs.cancels.CancelIndex.await_deadline.Goals as goal
-use Rattle.scope_index.proofs.cancels.CancelIndex.await_deadline.Goals.{then-not-has_own_cancel+in_ok-set, else-not-has_own_cancel}
 
 pub invariant_of-self-2 : goal.invariant_of-self-2
 invariant_of-self-2 c =

@@ -1,6 +1,5 @@
-use Rattle.std.proofs.Common.{◌-◌, ◌≤◌, sym, subst, arith}
-use Rattle.cancel_tree.specs.Rows.{IsAdded, changed, cancel_at, with_own}
-use Rattle.scope_index.specs.CancelTables.{HasRow, AreKept}
+use Rattle.std.proofs.Common.{◌-◌, ◌≤◌, arith, subst, sym}
+use Rattle.scope_index.specs.{AreKept, HasRow, IsAdded, cancel_at, changed, with_own}
 use Rattle.scope_index.proofs.CancelsKept.{kept_cancel}
 use Rattle.scope_index.proofs.cancels.CancelIndex.cancel.Goals as goal
 

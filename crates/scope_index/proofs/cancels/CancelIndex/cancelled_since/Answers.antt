@@ -1,11 +1,8 @@
 -- The tree's list, with the numbers that were given before it, is the history's.
-use Rattle.std.proofs.Common.{ℕ, ◌+◌, ◌≤◌, List, map, length, get_or, All, arith, refl, ap, sym, subst, ◌∙◌}
-use Rattle.std.proofs.lemmas.List.{drop-map}
-use Rattle.std.proofs.lemmas.List.Elements.{All-drop}
-use Rattle.cancel_tree.specs.declared.rows.ScopeNode.{ScopeNode}
-use Rattle.scope_index.specs.CancelTables.{CancelTable}
-use Rattle.scope_index.specs.CancelsOf.{AreCancelsOf}
-use Rattle.scope_index.proofs.CancelOrders.{order_read, listed_within}
+use Rattle.std.proofs.Common.{ℕ, ◌+◌, ◌∙◌, ◌≤◌, All, List, ap, arith, get_or, length, map, refl, subst, sym}
+use Rattle.scope_index.specs.{AreCancelsOf, CancelTable, ScopeNode}
+use Rattle.scope_index.proofs.Words.{All-drop, drop-map}
+use Rattle.scope_index.proofs.CancelOrders.{listed_within, order_read}
 use Rattle.scope_index.proofs.cancels.CancelIndex.cancelled_since.Goals as goal
 
 pub new-requires : goal.new-requires

@@ -1,6 +1,5 @@
-use Rattle.std.proofs.Common.{◌-◌, None, sym, subst, arith}
-use Rattle.cancel_tree.specs.Rows.{IsAdded, changed, with_deadline}
-use Rattle.scope_index.specs.CancelTables.{HasRow, AreKept}
+use Rattle.std.proofs.Common.{◌-◌, None, arith, subst, sym}
+use Rattle.scope_index.specs.{AreKept, HasRow, IsAdded, changed, with_deadline}
 use Rattle.scope_index.proofs.CancelsKept.{kept_join}
 use Rattle.scope_index.proofs.cancels.CancelIndex.drop_deadline.Goals as goal
 

@@ -1,7 +1,6 @@
-use Rattle.std.proofs.Common.{◌≡◌, ◌≤◌, ◌<◌, Some, sym, subst, ◌∙◌}
-use Rattle.scope_rules.proofs.Bound.{some_same}
-use Rattle.scope_index.specs.CancelTables.{CancelTable}
-use Rattle.scope_index.specs.CancelsOf.{IsMoved}
+use Rattle.std.proofs.Common.{◌<◌, ◌∙◌, ◌≡◌, ◌≤◌, Some, subst, sym}
+use Rattle.scope_index.specs.{CancelTable, IsMoved}
+use Rattle.scope_index.proofs.Words.{some_same}
 use Rattle.scope_index.proofs.Moves.{has_deadlined, latest_deadlined, moved_away, moved_on, moved_past}
 use Rattle.scope_index.proofs.cancels.CancelIndex.move_deadline.Goals as goal
 

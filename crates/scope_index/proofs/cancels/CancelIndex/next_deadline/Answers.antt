@@ -1,8 +1,6 @@
-use Rattle.std.proofs.Common.{◌≡◌, ◌∷◌, sym, subst, ◌∙◌, refl}
-use Rattle.scope_index.specs.CancelTables.{CancelTable}
-use Rattle.scope_index.specs.CancelsOf.{AreCancelsOf}
-use Rattle.scope_index.proofs.Coming.{IsAhead, ahead_first, ahead_next, next_found, none_comes}
-use Rattle.scope_index.proofs.Passing.{row_there}
+use Rattle.std.proofs.Common.{◌∙◌, ◌∷◌, ◌≡◌, refl, subst, sym}
+use Rattle.scope_index.specs.{AreCancelsOf, CancelTable}
+use Rattle.scope_index.proofs.{Coming.IsAhead, Coming.ahead_first, Coming.ahead_next, Coming.next_found, Coming.none_comes, Passing.row_there}
 use Rattle.scope_index.proofs.cancels.CancelIndex.next_deadline.Goals as goal
 
 pub loop-deadline-init : goal.loop-deadline-init

@@ -1,9 +1,7 @@
-use Rattle.std.proofs.Common.{◌≡◌, ◌+◌, ◌-◌, ◌<◌, ◌≤◌, Some, [], length, option_map, sym, subst, ap, ◌∙◌, arith}
-use Rattle.scope_rules.proofs.Bound.{some_same}
-use Rattle.join_rules.specs.JoinerStanding.{StandsFor}
-use Rattle.scope_index.specs.CancelTables.{CancelTable, with_scope, deadlined}
-use Rattle.scope_index.proofs.Opens.{opened_plain, opened_coming, opened_past, has_added, latest_added}
-use Rattle.scope_index.proofs.Moves.{has_deadlined, latest_deadlined}
+use Rattle.std.proofs.Common.{[], ◌+◌, ◌-◌, ◌<◌, ◌∙◌, ◌≡◌, ◌≤◌, Some, ap, arith, length, option_map, subst, sym}
+use Rattle.scope_index.specs.{CancelTable, StandsFor, deadlined, with_scope}
+use Rattle.scope_index.proofs.Words.{some_same}
+use Rattle.scope_index.proofs.{Moves.has_deadlined, Moves.latest_deadlined, Opens.has_added, Opens.latest_added, Opens.opened_coming, Opens.opened_past, Opens.opened_plain}
 use Rattle.scope_index.proofs.cancels.CancelIndex.open.Goals as goal
 
 pub cancel-requires-clause-row : goal.cancel-requires-clause-row

@@ -1,6 +1,5 @@
-use Rattle.std.proofs.Common.{◌-◌, ◌≤◌, Some, sym, subst, arith}
-use Rattle.cancel_tree.specs.Rows.{IsAdded, changed, with_deadline}
-use Rattle.scope_index.specs.CancelTables.{CancelTable, HasRow, AreKept}
+use Rattle.std.proofs.Common.{◌-◌, ◌≤◌, Some, arith, subst, sym}
+use Rattle.scope_index.specs.{AreKept, CancelTable, HasRow, IsAdded, changed, with_deadline}
 use Rattle.scope_index.proofs.CancelsKept.{kept_past}
 use Rattle.scope_index.proofs.cancels.CancelIndex.pass_deadline.Goals as goal
 

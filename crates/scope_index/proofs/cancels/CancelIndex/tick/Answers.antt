@@ -1,11 +1,8 @@
-use Rattle.std.proofs.Common.{◌≤◌, ◌<◌, refl, sym, subst}
+use Rattle.std.proofs.Common.{◌<◌, ◌≤◌, refl, subst, sym}
+use Rattle.scope_index.specs.{AreCancelsOf, AreKept, CancelTable, IsLatest}
+use Rattle.scope_index.proofs.{CancelSteps.ticked, CancelSteps.ticked_next, Passing.IsPassing, Passing.next_added, Passing.passing_kept, Passing.passing_start, Passing.passing_step, Passing.passing_ticked, Passing.shorter}
+use Rattle.scope_index.proofs.{TableSteps.HasStepped}
 use Rattle.std.specs.FinMap as map
-use Rattle.cancel_tree.specs.Rows.{IsLatest}
-use Rattle.scope_index.specs.CancelTables.{CancelTable, AreKept}
-use Rattle.scope_index.specs.CancelsOf.{AreCancelsOf}
-use Rattle.scope_index.proofs.CancelSteps.{ticked, ticked_next}
-use Rattle.scope_index.proofs.TableSteps.{HasStepped}
-use Rattle.scope_index.proofs.Passing.{IsPassing, passing_start, passing_step, passing_kept, passing_ticked, next_added, shorter}
 use Rattle.scope_index.proofs.cancels.CancelIndex.tick.Goals as goal
 
 pub loop-row-init : goal.loop-row-init

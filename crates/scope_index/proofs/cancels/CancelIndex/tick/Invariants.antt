@@ -1,7 +1,7 @@
 -- Each turn takes the first deadline that is due out of the index, and cancels its scope.
 use Rattle.std.proofs.Common.{◌≡◌}
-use Rattle.std.specs.FinMap as map
 use Rattle.scope_index.proofs.Passing.{IsPassing}
+use Rattle.std.specs.FinMap as map
 use Rattle.scope_index.proofs.cancels.CancelIndex.tick.Given as goal
 
 abbrev pub invariant-loop-row : goal.invariant-loop-row

@@ -1,6 +1,6 @@
 -- The task is the last of its scope's list.
-use Rattle.scope_index.specs.ForkTable.{with_task}
-use Rattle.scope_index.proofs.ForkSteps.{forks_written, forked_agrees}
+use Rattle.scope_index.specs.{with_task}
+use Rattle.scope_index.proofs.ForkSteps.{forked_agrees, forks_written}
 use Rattle.scope_index.proofs.forks.Forks.fork.Goals as goal
 
 pub returns-clause-kept : goal.returns-clause-kept

@@ -1,6 +1,5 @@
 -- The new scope has no tasks.
-use Rattle.std.proofs.Common.{arith}
-use Rattle.std.proofs.lemmas.Grind.{common_steps}
+use Rattle.scope_index.proofs.Words.{arith, common_steps}
 use Rattle.scope_index.proofs.ForkSteps.{opened_agrees}
 use Rattle.scope_index.proofs.forks.Forks.open.Goals as goal
 

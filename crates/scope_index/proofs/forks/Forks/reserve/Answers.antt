@@ -1,9 +1,8 @@
 -- The list of the scope has room, and nothing else changed.
-use Rattle.std.proofs.Common.{◌≤◌, ap, sym, subst, ◌∙◌}
-use Rattle.std.specs.Result.{OnOk}
-use Rattle.std.proofs.lemmas.Result.{on_err_weaker}
-use Rattle.scope_index.specs.ForkTable.{ForkedTasks, with_forks, roomy}
-use Rattle.scope_index.proofs.ForkSteps.{forks_written, forks_back, forks_same, roomy_agrees}
+use Rattle.std.proofs.Common.{◌∙◌, ◌≤◌, ap, subst, sym}
+use Rattle.scope_index.specs.{ForkedTasks, OnOk, roomy, with_forks}
+use Rattle.scope_index.proofs.Words.{on_err_weaker}
+use Rattle.scope_index.proofs.ForkSteps.{forks_back, forks_same, forks_written, roomy_agrees}
 use Rattle.scope_index.proofs.forks.Forks.reserve.Goals as goal
 
 pub returns-clause-ok : goal.returns-clause-ok

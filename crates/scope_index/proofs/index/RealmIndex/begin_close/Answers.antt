@@ -1,12 +1,6 @@
-use Rattle.std.proofs.Common.{refl, sym, subst, ◌∙◌}
-use Rattle.scope_rules.specs.declared.types.events.Event.TheVariants.{BeginClose}
-use Rattle.scope_rows.proofs.WantsMet.{can_begin_close}
-use Rattle.scoped_env.proofs.Steps.{envs_stay}
-use Rattle.scope_index.proofs.ForkSteps.{forks_stay}
-use Rattle.scope_rows.proofs.DeadlineSteps.{deadlines_stay}
-use Rattle.scope_index.specs.IndexTables.{IndexTable}
-use Rattle.scope_index.specs.Events.{IsReadyAt, HasAppliedAt}
-use Rattle.scope_index.proofs.Following.{alike_next_at, room_stays}
+use Rattle.scope_index.specs.{BeginClose, HasAppliedAt, IndexTable, IsReadyAt}
+use Rattle.scope_index.proofs.Words.{◌∙◌, can_begin_close, deadlines_stay, envs_stay, refl, subst, sym}
+use Rattle.scope_index.proofs.{Following.alike_next_at, Following.room_stays, ForkSteps.forks_stay}
 use Rattle.scope_index.proofs.index.RealmIndex.begin_close.Goals as goal
 
 pub cancel_covered-requires : goal.cancel_covered-requires

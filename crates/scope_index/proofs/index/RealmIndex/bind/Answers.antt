@@ -1,10 +1,6 @@
-use Rattle.std.proofs.Common.{refl, sym, subst}
-use Rattle.scope_rules.specs.declared.types.events.Event.TheVariants.{Bind}
-use Rattle.scope_rows.proofs.Keeping.{rows_bound}
-use Rattle.scope_index.specs.IndexTables.{IndexTable}
-use Rattle.scope_index.specs.Events.{IsReadyFor, HasApplied}
-use Rattle.scope_index.proofs.Following.{envs_follow}
-use Rattle.scope_index.proofs.Wanted.{bind_env}
+use Rattle.scope_index.specs.{Bind, HasApplied, IndexTable, IsReadyFor}
+use Rattle.scope_index.proofs.Words.{refl, rows_bound, subst, sym}
+use Rattle.scope_index.proofs.{Following.envs_follow, Wanted.bind_env}
 use Rattle.scope_index.proofs.index.RealmIndex.bind.Goals as goal
 
 pub bind-requires : goal.bind-requires

@@ -1,15 +1,6 @@
-use Rattle.std.proofs.Common.{refl, ap, sym, subst, ◌∙◌}
-use Rattle.scope_rules.specs.declared.types.answers.CauseKind.TheVariants.{Call}
-use Rattle.scope_rules.specs.declared.types.events.Event.TheVariants.{Cancel}
-use Rattle.scope_index.specs.CancelTables.{CancelTable, cancelled}
-use Rattle.scope_index.proofs.CancelSteps.{cancelled_next}
-use Rattle.scope_index.proofs.CancelReadings.{has_row}
-use Rattle.scope_rows.proofs.Keeping.{rows_cancelled}
-use Rattle.scope_rows.proofs.DeadlineSteps.{deadlines_stay}
-use Rattle.scope_index.specs.IndexTables.{IndexTable}
-use Rattle.scope_index.specs.Events.{IsReadyAt, HasAppliedAt}
-use Rattle.scope_index.proofs.Following.{cancels_follow, alike_next_at}
-use Rattle.scope_index.proofs.Wanted.{cancel_row, cancel_opened, latest}
+use Rattle.scope_index.specs.{Call, Cancel, CancelTable, HasAppliedAt, IndexTable, IsReadyAt, cancelled}
+use Rattle.scope_index.proofs.Words.{◌∙◌, ap, deadlines_stay, refl, rows_cancelled, subst, sym}
+use Rattle.scope_index.proofs.{CancelReadings.has_row, CancelSteps.cancelled_next, Following.alike_next_at, Following.cancels_follow, Wanted.cancel_opened, Wanted.cancel_row, Wanted.latest}
 use Rattle.scope_index.proofs.index.RealmIndex.cancel.Goals as goal
 
 pub cancel-requires-clause-row : goal.cancel-requires-clause-row

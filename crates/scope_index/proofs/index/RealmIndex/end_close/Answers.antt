@@ -1,9 +1,6 @@
-use Rattle.std.proofs.Common.{refl, sym, subst}
-use Rattle.scope_rules.specs.declared.types.events.Event.TheVariants.{EndClose}
-use Rattle.scope_rows.proofs.WantsMet.{can_end_close}
-use Rattle.scope_index.specs.IndexTables.{IndexTable}
-use Rattle.scope_index.specs.Events.{IsReadyFor, HasApplied}
-use Rattle.scope_index.proofs.Following.{rows_follow, alike_next}
+use Rattle.scope_index.specs.{EndClose, HasApplied, IndexTable, IsReadyFor}
+use Rattle.scope_index.proofs.Words.{can_end_close, refl, subst, sym}
+use Rattle.scope_index.proofs.Following.{alike_next, rows_follow}
 use Rattle.scope_index.proofs.index.RealmIndex.end_close.Goals as goal
 
 pub end_close-requires : goal.end_close-requires

@@ -1,15 +1,7 @@
-use Rattle.std.proofs.Common.{◌≡◌, ap, sym, subst, refl, ◌∙◌}
-use Rattle.scope_rules.specs.declared.types.events.Event.TheVariants.{Finish}
-use Rattle.scope_rules.specs.Cancels.{is_cancelled}
-use Rattle.scope_rows.specs.Table.{scope_of}
-use Rattle.scope_rows.proofs.WantsMet.{can_finish}
-use Rattle.scoped_env.proofs.Steps.{envs_stay}
-use Rattle.scope_index.proofs.ForkSteps.{forks_stay}
-use Rattle.scope_rows.proofs.DeadlineSteps.{deadlines_stay}
-use Rattle.scope_index.specs.IndexTables.{IndexTable, IsIndexOf}
-use Rattle.scope_index.specs.Events.{IsReadyAt, HasAppliedAt}
-use Rattle.scope_index.proofs.Ending.{ends_in, may_end, cancels_ended, room_ended}
-use Rattle.scope_index.proofs.Following.{alike_next_at}
+use Rattle.std.proofs.Common.{◌∙◌, ◌≡◌, ap, refl, subst, sym}
+use Rattle.scope_index.specs.{Finish, HasAppliedAt, IndexTable, IsIndexOf, IsReadyAt, is_cancelled, scope_of}
+use Rattle.scope_index.proofs.Words.{can_finish, deadlines_stay, envs_stay}
+use Rattle.scope_index.proofs.{Ending.cancels_ended, Ending.ends_in, Ending.may_end, Ending.room_ended, Following.alike_next_at, ForkSteps.forks_stay}
 use Rattle.scope_index.proofs.index.RealmIndex.finish.Goals as goal
 
 pub scope_of-scope-requires : goal.scope_of-scope-requires

@@ -1,19 +1,8 @@
-use Rattle.std.proofs.Common.{◌+◌, refl, ap, sym, subst, arith}
-use Rattle.scope_rules.specs.declared.types.events.Event.TheVariants.{Fork}
-use Rattle.scope_rows.proofs.Paid.{fork_place}
-use Rattle.scope_rows.proofs.WantsMet.{can_fork}
-use Rattle.scope_index.specs.CancelTables.{HasRow}
-use Rattle.scope_index.specs.CancelsOf.{AreCancelsOf}
-use Rattle.scope_index.proofs.EventSteps.{cancels_stay}
-use Rattle.scoped_env.specs.Agreement.{AreEnvsOf}
-use Rattle.scope_index.proofs.Held.{still_has_forks}
-use Rattle.scope_rows.proofs.DeadlineSteps.{deadlines_stay}
-use Rattle.scope_index.specs.IndexTables.{IndexTable, IsIndexOf, HasRoomForEnds, HasRoomToFork}
-use Rattle.scope_index.specs.Events.{IsReadyAt, HasAppliedAt}
-use Rattle.scope_index.proofs.Following.{alike_next_at}
-use Rattle.scope_index.proofs.Forking.{fork_row, fork_env, fork_numbers, fork_list, cancels_roomier, room_reserved, room_forked}
-use Rattle.scope_index.proofs.Opening.{on_err_anyway}
-use Rattle.scope_index.proofs.Roomier.{task_rows_roomier, kept_for_fork}
+use Rattle.std.proofs.Common.{◌+◌, ap, arith, refl, subst, sym}
+use Rattle.scope_index.specs.{AreCancelsOf, AreEnvsOf, Fork, HasAppliedAt, HasRoomForEnds, HasRoomToFork, HasRow, IndexTable, IsIndexOf, IsReadyAt}
+use Rattle.scope_index.proofs.Words.{can_fork, deadlines_stay, fork_place}
+use Rattle.scope_index.proofs.{EventSteps.cancels_stay, Following.alike_next_at, Forking.cancels_roomier, Forking.fork_env, Forking.fork_list, Forking.fork_numbers, Forking.fork_row, Forking.room_forked, Forking.room_reserved}
+use Rattle.scope_index.proofs.{Held.still_has_forks, Opening.on_err_anyway, Roomier.kept_for_fork, Roomier.task_rows_roomier}
 use Rattle.scope_index.proofs.index.RealmIndex.fork.Goals as goal
 
 pub room_to_fork-more-requires : goal.room_to_fork-more-requires

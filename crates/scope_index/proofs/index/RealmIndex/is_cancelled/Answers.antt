@@ -1,5 +1,5 @@
-use Rattle.std.proofs.Common.{sym, subst}
-use Rattle.scope_index.specs.IndexTables.{IsIndexOf}
+use Rattle.scope_index.specs.{IsIndexOf}
+use Rattle.scope_index.proofs.Words.{subst, sym}
 use Rattle.scope_index.proofs.NeverOpened.{uncancelled}
 use Rattle.scope_index.proofs.index.RealmIndex.is_cancelled.Goals as goal
 

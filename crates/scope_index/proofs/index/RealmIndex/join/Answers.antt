@@ -1,13 +1,6 @@
-use Rattle.std.proofs.Common.{ℕ, refl, sym, subst, ◌∙◌}
-use Rattle.scope_rules.specs.declared.types.events.Event.TheVariants.{Join}
-use Rattle.scope_rows.proofs.JoinLaws.{join_has}
-use Rattle.scoped_env.proofs.Steps.{envs_stay}
-use Rattle.scope_index.proofs.ForkSteps.{forks_stay}
-use Rattle.scope_rows.proofs.DeadlineSteps.{deadlines_stay}
-use Rattle.scope_index.specs.IndexTables.{IndexTable}
-use Rattle.scope_index.specs.Events.{IsReadyAt, HasAppliedAt}
-use Rattle.scope_index.proofs.Following.{alike_next_at, room_stays}
-use Rattle.scope_index.proofs.Wanted.{join_row}
+use Rattle.scope_index.specs.{HasAppliedAt, IndexTable, IsReadyAt, Join}
+use Rattle.scope_index.proofs.Words.{ℕ, ◌∙◌, deadlines_stay, envs_stay, join_has, refl, subst, sym}
+use Rattle.scope_index.proofs.{Following.alike_next_at, Following.room_stays, ForkSteps.forks_stay, Wanted.join_row}
 use Rattle.scope_index.proofs.index.RealmIndex.join.Goals as goal
 
 pub join-requires : goal.join-requires

@@ -1,11 +1,6 @@
-use Rattle.std.proofs.Common.{refl, sym, subst}
-use Rattle.scope_rules.specs.declared.types.events.Event.TheVariants.{Move}
-use Rattle.scope_rows.proofs.Keeping.{rows_deadline_moved}
-use Rattle.scope_rows.proofs.DeadlineSteps.{opened_has_deadline}
-use Rattle.scope_index.specs.IndexTables.{IndexTable}
-use Rattle.scope_index.specs.Events.{IsReadyAt, HasAppliedAt}
-use Rattle.scope_index.proofs.Following.{cancels_follow, alike_next_at}
-use Rattle.scope_index.proofs.Wanted.{move_row, move_passed, latest}
+use Rattle.scope_index.specs.{HasAppliedAt, IndexTable, IsReadyAt, Move}
+use Rattle.scope_index.proofs.Words.{opened_has_deadline, refl, rows_deadline_moved, subst, sym}
+use Rattle.scope_index.proofs.{Following.alike_next_at, Following.cancels_follow, Wanted.latest, Wanted.move_passed, Wanted.move_row}
 use Rattle.scope_index.proofs.index.RealmIndex.move_deadline.Goals as goal
 
 pub move_deadline-requires-clause-row : goal.move_deadline-requires-clause-row

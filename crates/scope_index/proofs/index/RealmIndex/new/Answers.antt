@@ -1,5 +1,5 @@
-use Rattle.std.proofs.Common.{[], refl, arith}
-use Rattle.scope_rules.specs.Origin.{the_start}
+use Rattle.scope_index.specs.{the_start}
+use Rattle.scope_index.proofs.Words.{[], arith, refl}
 use Rattle.scope_index.proofs.Alike.{alike}
 use Rattle.scope_index.proofs.index.RealmIndex.new.Goals as goal
 

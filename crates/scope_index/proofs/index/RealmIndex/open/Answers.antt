@@ -1,13 +1,7 @@
-use Rattle.std.proofs.Common.{refl, sym, subst, ◌∙◌}
-use Rattle.scope_rules.specs.declared.types.events.Event.TheVariants.{Open}
-use Rattle.scope_rows.proofs.WantsMet.{can_open}
-use Rattle.scoped_env.proofs.Steps.{envs_stay}
-use Rattle.scope_index.specs.IndexTables.{IndexTable, IsIndexOf}
-use Rattle.scope_index.specs.Events.{IsReadyAt, HasAppliedAt}
-use Rattle.scope_index.proofs.Following.{alike_next_at}
-use Rattle.scope_index.proofs.Opening.{forks_roomier, room_opened, on_err_anyway}
-use Rattle.scope_index.proofs.Roomier.{scope_rows_roomier, kept_for_open}
-use Rattle.scope_index.proofs.Wanted.{open_env, around_row, open_level, open_numbers, latest}
+use Rattle.scope_index.specs.{HasAppliedAt, IndexTable, IsIndexOf, IsReadyAt, Open}
+use Rattle.scope_index.proofs.Words.{◌∙◌, can_open, envs_stay, refl, subst, sym}
+use Rattle.scope_index.proofs.{Following.alike_next_at, Opening.forks_roomier, Opening.on_err_anyway, Opening.room_opened, Roomier.kept_for_open, Roomier.scope_rows_roomier, Wanted.around_row, Wanted.latest, Wanted.open_env}
+use Rattle.scope_index.proofs.{Wanted.open_level, Wanted.open_numbers}
 use Rattle.scope_index.proofs.index.RealmIndex.open.Goals as goal
 
 pub stack_len-height-requires : goal.stack_len-height-requires

@@ -1,9 +1,5 @@
-use Rattle.std.proofs.Common.{◌≡◌, [], ap, sym, subst, ◌∙◌, arith}
-use Rattle.scope_rules.specs.Origin.{Origin}
-use Rattle.scope_rules.specs.History.{tasks}
-use Rattle.scope_rules.specs.Replies.{base_of}
-use Rattle.scoped_env.specs.Agreement.{AreEnvsOf}
-use Rattle.scope_index.specs.IndexTables.{IndexTable}
+use Rattle.std.proofs.Common.{[], ◌∙◌, ◌≡◌, ap, arith, subst, sym}
+use Rattle.scope_index.specs.{AreEnvsOf, IndexTable, Origin, base_of, tasks}
 use Rattle.scope_index.proofs.Alike.{alike}
 use Rattle.scope_index.proofs.index.RealmIndex.reset.Goals as goal
 

@@ -1,7 +1,6 @@
-use Rattle.std.proofs.Common.{◌≡◌, length, ap, sym, subst, ◌∙◌, arith}
-use Rattle.scope_rules.proofs.Bound.{some_same}
-use Rattle.join_rules.specs.JoinerStanding.{JoinerStanding}
-use Rattle.scope_index.specs.IndexTables.{IndexTable, IsIndexOf, HasRoomToFork}
+use Rattle.std.proofs.Common.{◌∙◌, ◌≡◌, ap, arith, length, subst, sym}
+use Rattle.scope_index.specs.{HasRoomToFork, IndexTable, IsIndexOf, JoinerStanding}
+use Rattle.scope_index.proofs.Words.{some_same}
 use Rattle.scope_index.proofs.Forking.{forks_counted, unforked}
 use Rattle.scope_index.proofs.index.RealmIndex.room_to_fork.Goals as goal
 

@@ -1,9 +1,6 @@
-use Rattle.std.proofs.Common.{refl, sym, subst}
-use Rattle.scope_rules.specs.declared.types.events.Event.TheVariants.{Start}
-use Rattle.scope_rows.proofs.WantsMet.{can_start}
-use Rattle.scope_index.specs.IndexTables.{IndexTable}
-use Rattle.scope_index.specs.Events.{IsReadyFor, HasApplied}
-use Rattle.scope_index.proofs.Following.{rows_follow, alike_next}
+use Rattle.scope_index.specs.{HasApplied, IndexTable, IsReadyFor, Start}
+use Rattle.scope_index.proofs.Words.{can_start, refl, subst, sym}
+use Rattle.scope_index.proofs.Following.{alike_next, rows_follow}
 use Rattle.scope_index.proofs.index.RealmIndex.start.Goals as goal
 
 pub start-requires : goal.start-requires

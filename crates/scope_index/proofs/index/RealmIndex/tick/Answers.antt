@@ -1,11 +1,6 @@
-use Rattle.std.proofs.Common.{refl, sym, subst}
-use Rattle.scope_rules.specs.declared.types.events.Event.TheVariants.{Tick}
-use Rattle.scope_rows.proofs.Keeping.{rows_ticked}
-use Rattle.scope_rows.proofs.DeadlineSteps.{deadlines_stay}
-use Rattle.scope_index.specs.IndexTables.{IndexTable}
-use Rattle.scope_index.specs.Events.{IsReadyAt, HasAppliedAt}
-use Rattle.scope_index.proofs.Following.{cancels_follow}
-use Rattle.scope_index.proofs.Wanted.{tick_forward, latest}
+use Rattle.scope_index.specs.{HasAppliedAt, IndexTable, IsReadyAt, Tick}
+use Rattle.scope_index.proofs.Words.{deadlines_stay, refl, rows_ticked, subst, sym}
+use Rattle.scope_index.proofs.{Following.cancels_follow, Wanted.latest, Wanted.tick_forward}
 use Rattle.scope_index.proofs.index.RealmIndex.tick.Goals as goal
 
 pub tick-requires-clause-forward : goal.tick-requires-clause-forward

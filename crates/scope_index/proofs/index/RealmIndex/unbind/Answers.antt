@@ -1,10 +1,6 @@
-use Rattle.std.proofs.Common.{refl, sym, subst}
-use Rattle.scope_rules.specs.declared.types.events.Event.TheVariants.{Unbind}
-use Rattle.scope_rows.proofs.Keeping.{rows_unbound}
-use Rattle.scope_index.specs.IndexTables.{IndexTable}
-use Rattle.scope_index.specs.Events.{IsReadyFor, HasApplied}
-use Rattle.scope_index.proofs.Following.{envs_follow}
-use Rattle.scope_index.proofs.Wanted.{unbind_env}
+use Rattle.scope_index.specs.{HasApplied, IndexTable, IsReadyFor, Unbind}
+use Rattle.scope_index.proofs.Words.{refl, rows_unbound, subst, sym}
+use Rattle.scope_index.proofs.{Following.envs_follow, Wanted.unbind_env}
 use Rattle.scope_index.proofs.index.RealmIndex.unbind.Goals as goal
 
 pub unbind-requires : goal.unbind-requires

@@ -1,4 +1,4 @@
-use Rattle.std.proofs.Common.{[], sym, arith}
+use Rattle.scope_index.proofs.Words.{[], arith, sym}
 use Rattle.scope_index.proofs.Alike.{alike}
 use Rattle.scope_index.proofs.index.RealmIndex.with_base.Goals as goal
 
