@@ -284,7 +284,7 @@ impl Tree {
     }
 }
 
-/// Puts a row at the end of each column.
+/// Puts a row at the end of each column, which at first has room for that one alone: most realms have few scopes.
 fn append(
     nodes: &mut Vec<ScopeNode>,
     links: &mut Vec<Links>,
@@ -297,6 +297,11 @@ fn append(
     ensures links { links.new.items ≡ (if is_ok result then links.old.items ++ link ∷ [] else links.old.items) }
     ensures cancels { cancels.new.items ≡ (if is_ok result then cancels.old.items ++ first_cancel ∷ [] else cancels.old.items) }
 {
+    if nodes.is_empty() {
+        nodes.reserve_exact(1)?;
+        links.reserve_exact(1)?;
+        cancels.reserve_exact(1)?;
+    }
     links.reserve(1)?;
     cancels.reserve(1)?;
     nodes.push(row)?;

@@ -7,6 +7,7 @@ use crate::cancelled::CancelledScopes;
 use cancel_tree::Tree;
 use deadline_core::DeadlineOrder;
 use join_rules::JoinerAccount;
+use scope_rows::make_room;
 use scope_rules::types::records::FirstCancel;
 use scope_rules::{Cause, CauseKind, Completion, Effective, Options, Policy, ScopeId};
 use std::alloc::{AllocError, Global};
@@ -301,7 +302,7 @@ impl CancelIndex {
         ensures added { OnOk result (self.new ≡ with_scope self.old inside shield place account) }
         ensures refused { OnErr result (self.new ≡ self.old) }
     {
-        self.accounts.reserve(1)?;
+        make_room(&mut self.accounts, 1)?;
         let row = self.tree.len() as ScopeId + 1;
         if self.tree.add(row, inside, shield, place).is_err() {
             return Err(AllocError);
@@ -327,7 +328,7 @@ impl CancelIndex {
         ensures added { OnOk result (self.new ≡ deadlined (with_scope self.old inside shield place account) (self.old.before + (length self.old.nodes + 1)) (Some deadline)) }
         ensures refused { OnErr result (self.new ≡ self.old) }
     {
-        self.accounts.reserve(1)?;
+        make_room(&mut self.accounts, 1)?;
         let row = self.tree.len() as ScopeId + 1;
         self.deadlines.set(row, None, deadline)?;
         match self.tree.add(row, inside, shield, place) {

@@ -5,6 +5,7 @@ ghost use Rattle.scope_journal.specs.{AreAtMost, Codes.Codes, EntryTable, HasEnt
 ghost use Rattle.scope_rules.specs.declared.types.events.Event.TheVariants as event;
 
 use crate::codes::Code;
+use scope_rows::make_room;
 use scope_rules::types::values::Fault;
 use scope_rules::{Actor, End, Event, Label, Name, ScopeId, TaskId, Value};
 use std::alloc::{AllocError, Global};
@@ -56,8 +57,8 @@ impl Entries {
     {
         let more = names.saturating_sub(self.names.len());
         self.names.reserve(more)?;
-        self.wides.reserve(units)?;
-        self.labels.reserve(units)
+        make_room(&mut self.wides, units)?;
+        make_room(&mut self.labels, units)
     }
 
     /// Takes the entry of the event, for which there is room, if it has one. The code says the event.

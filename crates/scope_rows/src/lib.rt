@@ -10,6 +10,6 @@ pub mod records;
 pub mod rows;
 
 pub use deadlines::OwnDeadlines;
-pub use numbered::Numbered;
+pub use numbered::{Numbered, make_room};
 pub use records::{ScopeRow, TaskRow};
 pub use rows::Rows;

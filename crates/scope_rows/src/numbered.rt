@@ -1,6 +1,6 @@
 //! Lists that go by a number, as that of a scope or a task.
 
-ghost use Rattle.std.specs.Prelude.{ℕ, ◌+◌, ◌<◌, ◌≡◌, ◌≤◌, OnErr, OnOk, length, option_map, slice_index_or};
+ghost use Rattle.std.specs.Prelude.{ℕ, ◌+◌, ◌<◌, ◌≡◌, ◌≤◌, OnErr, OnOk, length, option_map, slice_index_or, vec_capacity, vec_len};
 ghost use Rattle.scope_rows.specs.{HasEntry, cleared, no_entries, place_of, row_of, sem, with_next};
 
 use std::alloc::{AllocError, Global};
@@ -85,7 +85,7 @@ impl<T: Drop> Numbered<T> {
         ensures kept { self.new ≡ record self.old { spare = self.new.spare } }
         ensures err { OnErr result (self.new ≡ self.old) }
     {
-        self.items.reserve(1)
+        make_room(&mut self.items, 1)
     }
 
     /// Adds the entry of the next number, for which there is room. It takes no memory.
@@ -110,5 +110,24 @@ impl<T: Drop> Numbered<T> {
         ensures { result ≡ place_of self.now.before number }
     {
         (number - self.before - 1) as usize
+    }
+}
+
+/// Makes room for so many entries more, and at first for these alone: most realms have few of them.
+///
+/// # Errors
+///
+/// If memory is refused. Then nothing has changed.
+pub fn make_room<T>(entries: &mut Vec<T>, more: usize) -> Result<(), AllocError>
+    ensures items { entries.new.items ≡ entries.old.items }
+    ensures len { vec_len entries.new ≡ vec_len entries.old }
+    ensures room { OnOk result (vec_len entries.new + more ≤ vec_capacity entries.new) }
+    ensures grown { vec_capacity entries.old ≤ vec_capacity entries.new }
+    ensures refused { OnErr result (vec_capacity entries.new ≡ vec_capacity entries.old) }
+{
+    if entries.is_empty() {
+        entries.reserve_exact(more)
+    } else {
+        entries.reserve(more)
     }
 }
