@@ -1,8 +1,7 @@
-use crate::cells::sleep_behind;
+use crate::wakes::Wakes;
 use std::alloc::{AllocError, Global};
+use std::sync::Arc;
 use std::sync::atomic::{AtomicU64, Ordering};
-use std::sync::{Arc, Condvar, MutexGuard, Wait};
-use std::time::Duration;
 
 /// What one call sleeps at, and whoever has something for it rings (Trio's `ParkingLot`, with one task at each place).
 /// Rings are counted: who reads the count before it looks for the last time misses none.
@@ -15,7 +14,7 @@ pub struct Bell {
 #[derive(Drop)]
 struct Rings {
     count: AtomicU64,
-    woken: Condvar,
+    wakes: Wakes,
 }
 
 /// No clause says more of a ring or a sleep: who sleeps is seen by no contract.
@@ -24,7 +23,7 @@ impl Bell {
     pub fn new(alloc: Global) -> Result<Bell, AllocError> {
         let rings = Rings {
             count: AtomicU64::new(0),
-            woken: Condvar::new(),
+            wakes: Wakes::new(),
         };
         Ok(Bell {
             shared: Arc::new(alloc, rings)?,
@@ -46,27 +45,11 @@ impl Bell {
     /// Rings it. It takes no lock and no memory, and waits for nobody.
     pub fn ring(&self) {
         self.shared.count.fetch_add(1, Ordering::SeqCst);
-        self.wake();
+        self.wakes().wake();
     }
 
-    /// Wakes who sleeps at it, without a ring.
-    pub fn wake(&self) {
-        self.shared.woken.notify_all();
-    }
-
-    /// Sleeps until it has rung more often than `heard`, is woken, for so long at most, or for no reason. The lock of the
-    /// guard is given up meanwhile and taken again, so a call under that lock that wakes is not missed.
-    pub fn park<'a, R: Wait, T>(
-        &self,
-        rt: &R,
-        held: MutexGuard<'a, T>,
-        heard: u64,
-        most: Option<Duration>,
-    ) -> MutexGuard<'a, T> {
-        let seen = self.shared.woken.notifications();
-        if self.rings() != heard {
-            return held;
-        }
-        sleep_behind(&self.shared.woken, rt, held, seen, most)
+    /// What its owner sleeps on. A wake here is no ring.
+    pub fn wakes(&self) -> &Wakes {
+        &self.shared.wakes
     }
 }

@@ -4,26 +4,18 @@ ghost use Rattle.once_cell.specs.Once.{Agrees};
 
 use crate::cancellation::Cancellation;
 use crate::marks::{Mark, Seat};
+use crate::wakes::Wakes;
 use once_cell::race::OnceBox;
 use scope_rules::ScopeId;
 use std::alloc::{AllocError, Global};
-use std::hint::spin_loop;
 use std::marker::Model;
-use std::sync::{Arc, Condvar, MutexGuard, Wait};
-use std::time::Duration;
-
-/// How often a call spins before it sleeps: for some ten microseconds, if a spin takes 17 nanoseconds. That is about as
-/// long as falling asleep and waking take.
-const SPINS: u32 = 600;
-
-/// The longest sleep of a call that no time ends, in seconds: some thirty years. Its caller then looks anew.
-const ENDLESS: u64 = 1_000_000_000;
+use std::sync::Arc;
 
 /// What all holders of a cell share: the cell itself, and what those sleep on who wait for its scope.
 #[derive(Drop)]
 pub(crate) struct Shared {
     pub(crate) once: OnceBox<Cancellation>,
-    pub(crate) woken: Condvar,
+    pub(crate) wakes: Wakes,
 }
 
 /// The cell of a scope: empty until the scope becomes cancelled, and set once. Any thread may look at
@@ -94,50 +86,13 @@ impl MarkCell {
         })
     }
 
-    /// Sleeps until it is woken here, or for no reason, and for so long at most, if a time is given. The lock of the
-    /// guard is given up meanwhile and taken again, so a call under that lock that wakes is not missed. What lies under
-    /// the lock may be other then, and the sleeper looks anew. That it returns is not promised. No clause says more of a
-    /// sleep or a wake: a lock's contents are known by their invariant alone, and who sleeps is seen by no contract.
-    pub fn park<'a, R: Wait, T>(
-        &self,
-        rt: &R,
-        held: MutexGuard<'a, T>,
-        most: Option<Duration>,
-    ) -> MutexGuard<'a, T> {
-        let seen = self.shared.woken.notifications();
-        sleep_behind(&self.shared.woken, rt, held, seen, most)
+    /// Whether the cell is set. A seat would be shown a mark.
+    pub fn is_set(&self) -> bool {
+        self.shared.once.get().is_some()
     }
 
-    /// Wakes all who sleep here.
-    pub fn wake(&self) {
-        self.shared.woken.notify_all();
+    /// What those sleep on who wait for its scope.
+    pub fn wakes(&self) -> &Wakes {
+        &self.shared.wakes
     }
-}
-
-/// Gives up the lock of the guard, sleeps until there were more wakes than `seen`, for so long at most, and takes the
-/// lock again.
-pub(crate) fn sleep_behind<'a, R: Wait, T>(
-    woken: &Condvar,
-    rt: &R,
-    held: MutexGuard<'a, T>,
-    seen: u64,
-    most: Option<Duration>,
-) -> MutexGuard<'a, T> {
-    let lock = MutexGuard::unlock(held);
-    if !is_woken_soon(woken, seen) {
-        let most = most.unwrap_or(Duration::from_secs(ENDLESS));
-        woken.sleep(rt, seen, most);
-    }
-    lock.lock(rt)
-}
-
-/// Spins, and says whether there was a wake since there were so many.
-fn is_woken_soon(woken: &Condvar, seen: u64) -> bool {
-    for _ in 0..SPINS {
-        if woken.notifications() != seen {
-            return true;
-        }
-        spin_loop();
-    }
-    false
 }

@@ -9,9 +9,13 @@ mod cells;
 pub mod laws;
 mod marks;
 mod setters;
+mod sleeps;
+mod wakes;
 
 pub use bells::Bell;
 pub use cancellation::Cancellation;
 pub use cells::MarkCell;
 pub use marks::{Mark, Seat};
 pub use setters::{CellReservation, MarkSetter};
+pub use sleeps::Awaited;
+pub use wakes::Wakes;

@@ -6,12 +6,13 @@ use crate::bells::Bell;
 use crate::cancellation::Cancellation;
 use crate::cells::{MarkCell, Shared};
 use crate::marks::Seat;
+use crate::wakes::Wakes;
 use once_cell::race::OnceBox;
 use scope_rules::{Cause, CauseKind, ScopeId};
 use slab::Slab;
 use std::alloc::{AllocError, Global};
 use std::marker::Model;
-use std::sync::{Arc, Condvar};
+use std::sync::Arc;
 
 /// What the cell of a scope wants of memory, before the scope has a number.
 #[derive(Drop)]
@@ -40,7 +41,7 @@ impl CellReservation {
         let blank = Box::new(alloc, CellReservation::BLANK)?;
         let shared = Shared {
             once: OnceBox::new(alloc),
-            woken: Condvar::new(),
+            wakes: Wakes::new(),
         };
         let one = Arc::new(alloc, shared)?;
         let other = Arc::try_clone(&one)?;
@@ -126,7 +127,7 @@ impl MarkSetter {
 
     /// Wakes all who sleep at the cell.
     pub fn wake(&self) {
-        self.cell.wake();
+        self.cell.wakes().wake();
     }
 
     /// Notes a bell whose sleeper is woken when the cell is set, and gives its place. None if memory is refused.
@@ -157,9 +158,9 @@ impl MarkSetter {
                 *blank = told;
                 self.used = Some(told);
                 let first = self.cell.shared.once.set_as(blank, &mut self.seat.note);
-                self.cell.wake();
+                self.cell.wakes().wake();
                 for (_, bell) in &self.bells {
-                    bell.wake();
+                    bell.wakes().wake();
                 }
                 first.is_ok()
             }

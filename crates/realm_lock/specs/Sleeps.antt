@@ -1,7 +1,15 @@
 -- Over what nobody sleeps, and how long.
-use Rattle.std.specs.Prelude.{ℕ, Option, None, Some, min}
+use Rattle.std.specs.Prelude.{◌≡◌, ℕ, Option, None, Some, false, min}
 use Rattle.scope_rules.specs.History.{History}
+use Rattle.scope_rules.specs.Tasks.{settled}
 use Rattle.realm_core.specs.Waiting.{IsOpenOf, HoldsUp}
+use Rattle.realm_lock.specs.declared.lookouts.Wanted.{Wanted}
+use Rattle.realm_lock.specs.declared.lookouts.Wanted.TheVariants.{Scope, Sign}
+
+-- what is wanted isn't there after h, if it is a scope's: a task of the scope waits or runs
+abbrev pub Lacks : History → Wanted → Type 0
+Lacks h (Scope s until) = settled h s ≡ false
+Lacks h (Sign cell bell) = Unit {0}
 
 -- a task waits or runs of a scope that the close of scope s covers
 pub record IsHeldUp (h : History) (s : ℕ) : Type 0 where

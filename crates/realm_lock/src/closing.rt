@@ -9,6 +9,7 @@ ghost use Rattle.realm_core.specs.Waiting.{IsOpenOf};
 ghost use Rattle.realm_core.specs.Closes.{IsBegun, Begins, EndsLater, ClosesBare, EndsReported, HoldsBack, ClosesWith, StaysOpen};
 
 use crate::locked::LockedRealm;
+use crate::lookouts::{Until, Wanted};
 use crate::realm::Realm;
 use realm_core::{CloseReport, RealmName};
 use scope_rules::{Cancelling, Catalog, Refusal, ScopeId, Verdict};
@@ -117,7 +118,7 @@ impl<C: Catalog, N: RealmName> Realm<C, N> {
                 Some(verdict) => return verdict,
                 None => {
                     let waits_for = locked.unsettled(scope);
-                    locked = self.sleep_at(rt, locked, waits_for);
+                    locked = self.sleep_at(rt, locked, Wanted::Scope(waits_for, Until::Settled));
                 }
             }
         }
@@ -146,7 +147,7 @@ impl<C: Catalog, N: RealmName> Realm<C, N> {
                 Some(answer) => return answer,
                 None => {
                     let waits_for = locked.unsettled(scope);
-                    locked = self.sleep_at(rt, locked, waits_for);
+                    locked = self.sleep_at(rt, locked, Wanted::Scope(waits_for, Until::Settled));
                 }
             }
         }

@@ -3,6 +3,7 @@ ghost use Rattle.realm_state.specs.Fits.{Fitting};
 ghost use Rattle.realm_core.specs.Calls.{history_seen};
 ghost use Rattle.realm_core.specs.Views.{Joins, JoinsBare};
 
+use crate::lookouts::{Until, Wanted};
 use crate::realm::Realm;
 use realm_core::{BareOutcome, Joined, RealmName};
 use scope_rules::{Catalog, Refusal, ScopeId};
@@ -27,10 +28,11 @@ impl<C: Catalog, N: RealmName> Realm<C, N> {
         ensures fitting { Fitting C.fitting (history_seen token.new) }
         ensures waited { result ≡ Err Refusal.NotReady → ⊥ }
     {
+        let wanted = Wanted::Scope(scope, Until::Joinable);
         let mut locked = self.shared.locked.lock(rt);
         for _ in rt.forever() {
             match locked.join(token, scope) {
-                Err(Refusal::NotReady) => locked = self.sleep_at(rt, locked, scope),
+                Err(Refusal::NotReady) => locked = self.sleep_at(rt, locked, wanted),
                 Err(refusal) => {
                     return Err(refusal);
                 }
@@ -56,11 +58,12 @@ impl<C: Catalog, N: RealmName> Realm<C, N> {
         ensures fitting { Fitting C.fitting (history_seen token.new) }
         ensures waited { result ≡ Err Refusal.NotReady → ⊥ }
     {
+        let wanted = Wanted::Scope(scope, Until::Joinable);
         let mut locked = self.shared.locked.lock(rt);
         for _ in rt.forever() {
             match locked.join_bare(token, scope) {
                 Err(Refusal::NotReady) => {
-                    locked = self.sleep_at(rt, locked, scope);
+                    locked = self.sleep_at(rt, locked, wanted);
                 }
                 Err(refusal) => {
                     return Err(refusal);

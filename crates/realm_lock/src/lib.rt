@@ -9,6 +9,7 @@ mod in_time;
 mod joins;
 pub mod laws;
 mod locked;
+mod lookouts;
 mod looks;
 mod marks;
 mod opening;

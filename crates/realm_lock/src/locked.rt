@@ -26,8 +26,9 @@ ghost use Rattle.realm_lock.specs.Cells.{GivesCell};
 ghost use Rattle.realm_lock.specs.Openings.{scope_alone, refusal_of};
 ghost use Rattle.realm_lock.specs.Sleeps.{IsHeldUp};
 
+use crate::lookouts::Until;
 use crate::setters::CancelSetters;
-use crate::timed_waiters::{Noted, TimedWaiters, WaitTarget};
+use crate::timed_waiters::{CalledWaiter, Noted, OwedWatch, TimedWaiters, WaitTarget};
 use cancel_marks::{Bell, MarkCell};
 use join_rules::Joiner;
 use realm_core::{
@@ -368,20 +369,41 @@ impl<C: Catalog, N: RealmName> LockedRealm<C, N> {
         }
     }
 
+    /// Whether there is of the scope what a call waits for.
+    pub(crate) fn is_done(&self, scope: ScopeId, until: Until) -> bool
+        ensures { result ≡ false → settled (history_of self.now.steps) scope ≡ false }
+    {
+        let realm = self.core.realm();
+        let is_cancelled = match until {
+            Until::Joinable => realm.is_cancelled(scope),
+            Until::Settled => false,
+        };
+        is_cancelled || realm.settled(scope)
+    }
+
     /// Notes that a call goes to sleep at the target that waits by a clock, and its bell at the scope whose cancel wakes it.
-    /// None if no note is obtained.
-    pub(crate) fn note_waiter(&mut self, target: &WaitTarget) -> Option<Noted>
+    /// It owes no watch then. What it owes is handed back if no note is obtained.
+    pub(crate) fn note_waiter(
+        &mut self,
+        target: &WaitTarget,
+        owed: Option<OwedWatch>,
+    ) -> Result<Noted, Option<OwedWatch>>
         ensures { self.new ≡ self.old }
     {
-        let noted = self.timed_waiters.enter(target.share()?)?;
-        let Some((scope, bell)) = target.bell() else {
-            return Some(noted);
+        let Some(shared) = target.share() else {
+            return Err(owed);
         };
-        match self.note_bell(scope, bell) {
-            Some(place) => Some(noted.with_bell(scope, place)),
-            None => {
-                self.forget_waiter(noted);
-                None
+        let Some((scope, bell)) = target.bell() else {
+            return self.timed_waiters.enter(shared, owed);
+        };
+        let Some(place) = self.note_bell(scope, bell) else {
+            return Err(owed);
+        };
+        match self.timed_waiters.enter(shared, owed) {
+            Ok(noted) => Ok(noted.with_bell(scope, place)),
+            Err(owed) => {
+                self.setters.forget_bell(self.core.realm(), scope, place);
+                Err(owed)
             }
         }
     }
@@ -399,18 +421,25 @@ impl<C: Catalog, N: RealmName> LockedRealm<C, N> {
         self.timed_waiters.is_watching(noted)
     }
 
-    /// Forgets a call that has woken, and where its bell was noted.
-    pub(crate) fn forget_waiter(&mut self, noted: Noted)
-        ensures { self.new ≡ self.old }
-    {
-        if let Some((scope, place)) = self.timed_waiters.leave(noted) {
-            self.setters.forget_bell(self.core.realm(), scope, place);
-        }
+    /// Whether the call that is noted watches, if it is to, and else somebody does.
+    pub(crate) fn is_watched(&self, noted: &Noted, watches: bool) -> bool {
+        self.timed_waiters.is_watched(noted, watches)
     }
 
-    /// Where one sleeps that is to watch, if nobody does.
-    pub(crate) fn heir(&self) -> Option<&WaitTarget> {
-        self.timed_waiters.heir()
+    /// Forgets a call that has woken, and where its bell was noted. Gives the watch, if the call owes it now.
+    pub(crate) fn forget_waiter(&mut self, noted: Noted) -> Option<OwedWatch>
+        ensures { self.new ≡ self.old }
+    {
+        let (bell, owed) = self.timed_waiters.leave(noted);
+        if let Some((scope, place)) = bell {
+            self.setters.forget_bell(self.core.realm(), scope, place);
+        }
+        owed
+    }
+
+    /// Hands on the watch: gives the call that is to keep it, if nobody does and one sleeps.
+    pub(crate) fn heir(&self, owed: OwedWatch) -> Option<CalledWaiter<'_>> {
+        self.timed_waiters.heir(owed)
     }
 
     /// Who watches does so no longer. Gives the index of its note.

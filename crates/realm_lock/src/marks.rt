@@ -2,6 +2,7 @@ ghost use Rattle.std.specs.Prelude.{◌≡◌, Some};
 ghost use Rattle.once_cell.specs.Once.{Agrees};
 ghost use Rattle.cancel_marks.specs.Marked.{said_by};
 
+use crate::lookouts::Wanted;
 use crate::realm::Realm;
 use cancel_marks::{Mark, MarkCell, Seat};
 use realm_core::RealmName;
@@ -22,7 +23,7 @@ impl<C: Catalog, N: RealmName> Realm<C, N> {
         for _ in rt.forever() {
             match cell.checkpoint(seat) {
                 Some(mark) => return mark,
-                None => locked = cell.park(rt, locked, None),
+                None => locked = self.sleep_at(rt, locked, Wanted::Sign(Some(cell), None)),
             }
         }
         unreachable!()

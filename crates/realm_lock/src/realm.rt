@@ -4,12 +4,13 @@ ghost use Rattle.scope_rules.specs.declared.types.refusals.Refusal.TheVariants.{
 ghost use Rattle.realm_core.specs.Calls.{history_seen};
 
 use crate::locked::LockedRealm;
+use cancel_marks::Wakes;
 use realm_core::RealmName;
 use scope_rules::types::values::MAIN;
 use scope_rules::{Catalog, Limits, Refusal};
 use share_ledger::{OwnerShare, Seed};
 use std::alloc::Global;
-use std::sync::{Arc, Condvar, Mutex};
+use std::sync::{Arc, Mutex};
 
 /// The lock of a realm, and what those sleep on who wait for a moment alone. It is generic in what lies
 /// under the lock, so that the check shows of any that may go to another thread that this may too; a realm's
@@ -17,7 +18,7 @@ use std::sync::{Arc, Condvar, Mutex};
 #[derive(Drop)]
 pub(crate) struct Shared<K: Drop> {
     pub(crate) locked: Mutex<K>,
-    pub(crate) moments: Condvar,
+    pub(crate) moments: Wakes,
 }
 
 /// A realm for threads to share: each has a share of it. Whenever its lock is free, its book is the
@@ -63,7 +64,7 @@ impl<C: Catalog, N: RealmName> Realm<C, N> {
         let (locked, token) = LockedRealm::new(alloc, seed, limits);
         let shared = Shared {
             locked: Mutex::new(locked),
-            moments: Condvar::new(),
+            moments: Wakes::new(),
         };
         match Arc::new(alloc, shared) {
             Ok(shared) => Ok((Realm { shared }, token)),

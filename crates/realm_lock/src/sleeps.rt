@@ -1,18 +1,17 @@
-ghost use Rattle.std.specs.Prelude.{◌≡◌, ◌-◌, ◌*◌, ◌≤◌, ℕ, IfSome, IsTrue, None, Some, false};
+ghost use Rattle.std.specs.Prelude.{◌≡◌, ◌-◌, ◌*◌, ℕ, None, Some};
 ghost use Rattle.std.specs.Option.{MatchOption};
 ghost use Rattle.std.specs.Duration.{as_nanos};
 ghost use Rattle.std.specs.Sync.Mutex.{mutex_guard_value};
-ghost use Rattle.scope_rules.specs.Tasks.{settled};
 ghost use Rattle.share_ledger.specs.Steps.{history_of};
 ghost use Rattle.realm_lock.specs.Waits.{HasCome};
-ghost use Rattle.realm_lock.specs.Sleeps.{NANOS, sooner};
+ghost use Rattle.realm_lock.specs.Sleeps.{Lacks, NANOS, sooner};
 
 use crate::locked::LockedRealm;
+use crate::lookouts::{Lookout, Wanted};
 use crate::realm::Realm;
-use crate::timed_waiters::WaitTarget;
+use crate::timed_waiters::OwedWatch;
 use realm_core::RealmName;
-use scope_rules::{Catalog, ScopeId};
-use std::rt::Clock as SystemTime;
+use scope_rules::Catalog;
 use std::sync::{MutexGuard, Wait};
 use std::time::Duration;
 
@@ -23,98 +22,92 @@ const UNNOTED_MILLIS: u64 = 10;
 /// scope becomes cancelled and when the last of its tasks has ended. So an event wakes only those whom it
 /// concerns. Of those who wait by a clock one watches: it sleeps until the realm's next deadline, and is
 /// woken when one comes nearer. A call that ends its wait wakes another to watch, if nobody does.
+/// All sleep by `Wakes::sleep_unless`, which looks once more: count, look and unlock can't be done in another order.
 impl<C: Catalog, N: RealmName> Realm<C, N> {
-    /// Sleeps at the cell of the scope, of which a task waits or runs, until it is woken.
+    /// Sleeps until it is woken, unless what it wants is there.
     pub(crate) fn sleep_at<'a, R: Wait>(
         &'a self,
         rt: &R,
         locked: MutexGuard<'a, LockedRealm<C, N>>,
-        scope: ScopeId,
+        wanted: Wanted<'_>,
     ) -> MutexGuard<'a, LockedRealm<C, N>>
-        requires busy { settled (history_of (mutex_guard_value locked).steps) scope ≡ false }
+        requires busy { Lacks (history_of (mutex_guard_value locked).steps) wanted }
     {
-        match locked.cell(scope) {
-            Ok(cell) => cell.park(rt, locked, None),
-            Err(_) => {
+        match wanted.target(&locked) {
+            Some(target) => {
+                let lookout = Lookout {
+                    wanted,
+                    noted: None,
+                };
+                target
+                    .wakes(&self.shared.moments)
+                    .sleep_unless(rt, locked, &lookout, None)
+            }
+            None => {
                 drop(locked);
                 self.shared.locked.lock(rt)
             }
         }
     }
 
-    /// Sleeps at the cell of the scope, of which a task waits or runs, until it is woken or a deadline has
-    /// come; the clock has read `now`, and none has come by then. If the cell isn't had, since std's count
-    /// of holders is full, it doesn't sleep.
-    pub(crate) fn park_at<'a, R: Wait + SystemTime>(
-        &'a self,
-        rt: &R,
-        locked: MutexGuard<'a, LockedRealm<C, N>>,
-        now: u64,
-        scope: ScopeId,
-    )
-        requires busy { settled (history_of (mutex_guard_value locked).steps) scope ≡ false }
-        requires passed { HasCome (history_of (mutex_guard_value locked).steps) now → ⊥ }
-    {
-        if let Ok(cell) = locked.cell(scope) {
-            self.park(rt, locked, now, None, WaitTarget::Cell(cell));
-        }
-    }
-
-    /// Sleeps at the target until it is woken, a deadline has come, or `until`; the clock has read `now`, and no
-    /// deadline has come by then.
-    pub(crate) fn park<'a, R: Wait + SystemTime>(
+    /// Sleeps until it is woken, a deadline has come, or `until`, unless what it wants is there; the clock has read `now`,
+    /// and no deadline has come by then. If the cell or bell isn't had, since std's count of holders is full, it doesn't
+    /// sleep. Takes the watch that the call owes, and gives the one that it owes then.
+    pub(crate) fn park<'a, R: Wait>(
         &'a self,
         rt: &R,
         locked: MutexGuard<'a, LockedRealm<C, N>>,
         now: u64,
         until: Option<u64>,
-        target: WaitTarget,
-    )
+        wanted: Wanted<'_>,
+        owed: Option<OwedWatch>,
+    ) -> Option<OwedWatch>
+        requires busy { Lacks (history_of (mutex_guard_value locked).steps) wanted }
         requires passed { HasCome (history_of (mutex_guard_value locked).steps) now → ⊥ }
     {
         let mut locked = locked;
-        match locked.note_waiter(&target) {
-            Some(noted) => {
-                let most = if locked.is_watching(&noted) {
-                    time_to(now, locked.next_deadline(), until)
+        let Some(target) = wanted.target(&locked) else {
+            return owed;
+        };
+        let wakes = target.wakes(&self.shared.moments);
+        match locked.note_waiter(&target, owed) {
+            Ok(noted) => {
+                let watches = locked.is_watching(&noted);
+                let deadline = if watches {
+                    locked.next_deadline()
                 } else {
-                    time_to(now, locked.deadline_at(&target), until)
+                    locked.deadline_at(&target)
                 };
-                let mut locked = self.slept(rt, locked, target, most);
-                locked.forget_waiter(noted);
+                let lookout = Lookout {
+                    wanted,
+                    noted: Some((&noted, watches)),
+                };
+                let most = time_to(now, deadline, until);
+                let mut locked = wakes.sleep_unless(rt, locked, &lookout, most);
+                locked.forget_waiter(noted)
             }
-            None => {
+            Err(owed) => {
                 let most = now.saturating_add(UNNOTED_MILLIS);
                 let until = until.unwrap_or(most).min(most);
                 let most = time_to(now, locked.next_deadline(), Some(until));
-                let _locked = self.slept(rt, locked, target, most);
+                let lookout = Lookout {
+                    wanted,
+                    noted: None,
+                };
+                let _locked = wakes.sleep_unless(rt, locked, &lookout, most);
+                owed
             }
         }
     }
 
-    /// Sleeps at the target until it is woken, or for so long.
-    fn slept<'a, R: Wait + SystemTime>(
-        &'a self,
-        rt: &R,
-        locked: MutexGuard<'a, LockedRealm<C, N>>,
-        target: WaitTarget,
-        most: Option<Duration>,
-    ) -> MutexGuard<'a, LockedRealm<C, N>> {
-        match (target, most) {
-            (WaitTarget::Cell(cell), most) => cell.park(rt, locked, most),
-            (WaitTarget::Bell { bell, heard, .. }, most) => bell.park(rt, locked, heard, most),
-            (WaitTarget::Moment, Some(most)) => {
-                let (locked, _) = self.shared.moments.wait_timeout(rt, locked, most);
-                locked
-            }
-            (WaitTarget::Moment, None) => self.shared.moments.wait(rt, locked),
-        }
-    }
-
-    /// A wait by a clock ends: if nobody watches, one who sleeps is woken to.
-    pub(crate) fn hand_on(&self, locked: &LockedRealm<C, N>) {
-        if let Some(heir) = locked.heir() {
-            heir.wake(&self.shared.moments);
+    /// A wait by a clock ends: if it owes the watch, and nobody keeps it, one who sleeps is woken to.
+    pub(crate) fn hand_on(&self, locked: &LockedRealm<C, N>, owed: Option<OwedWatch>) {
+        match owed {
+            Some(owed) => match locked.heir(owed) {
+                Some(heir) => heir.wake(&self.shared.moments),
+                None => {}
+            },
+            None => {}
         }
     }
 
@@ -125,7 +118,7 @@ impl<C: Catalog, N: RealmName> Realm<C, N> {
         if is_nearer(locked.next_deadline(), before) {
             if let Some(place) = locked.dismiss_watcher() {
                 if let Some(target) = locked.target(place) {
-                    target.wake(&self.shared.moments);
+                    target.wakes(&self.shared.moments).wake();
                 }
             }
         }

@@ -8,8 +8,9 @@ ghost use Rattle.realm_core.specs.Waiting.{FoundUnsettled, IsOpenOf};
 ghost use Rattle.realm_core.specs.Closes.{IsBegun};
 ghost use Rattle.realm_lock.specs.Waits.{HasCome, HasPassed, JoinsBy, StaysUnclosed, Stopped, StopsClosing, Waited, WaitsToClose, shown_in};
 
+use crate::lookouts::{Until, Wanted};
 use crate::realm::Realm;
-use crate::timed_waiters::{BellWait, WaitTarget};
+use crate::timed_waiters::BellWait;
 use cancel_marks::{Mark, MarkCell, Seat};
 use realm_core::{Joined, RealmName};
 use scope_rules::{Catalog, Refusal, ScopeId};
@@ -39,17 +40,21 @@ impl<C: Catalog, N: RealmName> Realm<C, N> {
         ensures fitting { Fitting C.fitting (history_seen token.new) }
         ensures waited { result ≡ Err NotReady → ⊥ }
     {
+        let mut owed = None;
         for _ in rt.forever() {
             let now = clock.now();
             let mut locked = self.shared.locked.lock(rt);
             match locked.join_in_time(token, scope, now) {
-                Err(Refusal::NotReady) => self.park_at(rt, locked, now, scope),
+                Err(Refusal::NotReady) => {
+                    let wanted = Wanted::Scope(scope, Until::Joinable);
+                    owed = self.park(rt, locked, now, None, wanted, owed);
+                }
                 Err(refusal) => {
-                    self.hand_on(&locked);
+                    self.hand_on(&locked, owed);
                     return Err(refusal);
                 }
                 Ok(joined) => {
-                    self.hand_on(&locked);
+                    self.hand_on(&locked, owed);
                     return Ok(joined);
                 }
             }
@@ -94,20 +99,21 @@ impl<C: Catalog, N: RealmName> Realm<C, N> {
         ensures begun { IsBegun (history_seen token.new) token.old.actor scope }
         ensures settled { IfOk result (λ _. FoundUnsettled (history_seen token.new) scope None) }
     {
+        let mut owed = None;
         for _ in rt.forever() {
             let now = clock.now();
             let mut locked = self.shared.locked.lock(rt);
             match locked.is_settled_in_time(token, scope, now) {
                 Ok(true) => {
-                    self.hand_on(&locked);
+                    self.hand_on(&locked, owed);
                     return Ok(());
                 }
                 Ok(false) => {
-                    let waits_for = locked.unsettled(scope);
-                    self.park_at(rt, locked, now, waits_for);
+                    let wanted = Wanted::Scope(locked.unsettled(scope), Until::Settled);
+                    owed = self.park(rt, locked, now, None, wanted, owed);
                 }
                 Err(refusal) => {
-                    self.hand_on(&locked);
+                    self.hand_on(&locked, owed);
                     return Err(refusal);
                 }
             }
@@ -138,25 +144,25 @@ impl<C: Catalog, N: RealmName> Realm<C, N> {
         ensures slept { result ≡ Ok None → IsNone bell.entry → HasPassed until (K.reading clock.new) }
         ensures passed_all { result ≡ Ok None → IfSome (K.reading clock.new) (λ now. HasCome (history_seen token.new) now → ⊥) }
     {
+        let mut owed = None;
         for _ in rt.forever() {
             let now = clock.now();
             let mut locked = self.shared.locked.lock(rt);
             match locked.marked_in_time(token, cell, seat, now) {
                 Ok(None) => {
                     if is_over(until, now, &bell) {
-                        self.hand_on(&locked);
+                        self.hand_on(&locked, owed);
                         return Ok(None);
                     }
-                    if let Some(target) = target_of(cell, &bell) {
-                        self.park(rt, locked, now, until, target);
-                    }
+                    let wanted = Wanted::Sign(Some(cell), bell);
+                    owed = self.park(rt, locked, now, until, wanted, owed);
                 }
                 Ok(Some(mark)) => {
-                    self.hand_on(&locked);
+                    self.hand_on(&locked, owed);
                     return Ok(Some(mark));
                 }
                 Err(refusal) => {
-                    self.hand_on(&locked);
+                    self.hand_on(&locked, owed);
                     return Err(refusal);
                 }
             }
@@ -180,18 +186,20 @@ impl<C: Catalog, N: RealmName> Realm<C, N> {
         ensures passed_all { IfOk result (λ _. IfSome (K.reading clock.new) (λ now. HasCome (history_seen token.new) now → ⊥)) }
         ensures fitting { Fitting C.fitting (history_seen token.new) }
     {
+        let mut owed = None;
         for _ in rt.forever() {
             let now = clock.now();
             let mut locked = self.shared.locked.lock(rt);
             if let Err(refusal) = locked.pass_due(token, now) {
-                self.hand_on(&locked);
+                self.hand_on(&locked, owed);
                 return Err(refusal);
             }
             if until <= now {
-                self.hand_on(&locked);
+                self.hand_on(&locked, owed);
                 return Ok(());
             }
-            self.park(rt, locked, now, Some(until), WaitTarget::Moment);
+            let wanted = Wanted::Sign(None, None);
+            owed = self.park(rt, locked, now, Some(until), wanted, owed);
         }
         unreachable!()
     }
@@ -211,31 +219,22 @@ impl<C: Catalog, N: RealmName> Realm<C, N> {
         ensures passed_all { IfOk result (λ _. IfSome (K.reading clock.new) (λ now. HasCome (history_seen token.new) now → ⊥)) }
         ensures fitting { Fitting C.fitting (history_seen token.new) }
     {
+        let mut owed = None;
         for _ in rt.forever() {
             let now = clock.now();
             let mut locked = self.shared.locked.lock(rt);
             if let Err(refusal) = locked.pass_due(token, now) {
-                self.hand_on(&locked);
+                self.hand_on(&locked, owed);
                 return Err(refusal);
             }
             if bell.has_rung() {
-                self.hand_on(&locked);
+                self.hand_on(&locked, owed);
                 return Ok(());
             }
-            if let Some(target) = bell.target(None) {
-                self.park(rt, locked, now, None, target);
-            }
+            let wanted = Wanted::Sign(None, Some(bell));
+            owed = self.park(rt, locked, now, None, wanted, owed);
         }
         unreachable!()
-    }
-}
-
-/// Where one sleeps who waits for the mark of the cell: at its bell, or else at the cell. None if std's count of holders
-/// is full.
-fn target_of(cell: &MarkCell, bell: &Option<BellWait<'_>>) -> Option<WaitTarget> {
-    match bell {
-        Some(bell) => bell.target(Some(cell.scope())),
-        None => Some(WaitTarget::Cell(cell.share().ok()?)),
     }
 }
 

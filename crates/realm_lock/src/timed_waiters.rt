@@ -1,10 +1,11 @@
-ghost use Rattle.std.specs.Prelude.{◌≡◌, IfSome, IfNone, None, Some};
+ghost use Rattle.std.specs.Prelude.{◌≡◌, ◌<◌, IfErr, IfOk, IsSome, IsTrue, None, Some};
+ghost use Rattle.std.specs.Option.{MatchOption};
+ghost use Rattle.slab.specs.Slab.{slab_len};
 
-use cancel_marks::{Bell, MarkCell};
+use cancel_marks::{Bell, MarkCell, Wakes};
 use scope_rules::ScopeId;
 use slab::Slab;
 use std::alloc::Global;
-use std::sync::Condvar;
 
 /// A bell that ends a wait. It had rung `heard` times when its owner looked last.
 #[derive(Clone, Copy)]
@@ -76,12 +77,12 @@ impl WaitTarget {
         }
     }
 
-    /// Wakes who sleeps there; at the realm's `moments` who waits for a moment alone.
-    pub(crate) fn wake(&self, moments: &Condvar) {
+    /// What is slept on there; `moments`, the realm's, by who waits for a moment alone.
+    pub(crate) fn wakes<'a>(&'a self, moments: &'a Wakes) -> &'a Wakes {
         match self {
-            WaitTarget::Cell(cell) => cell.wake(),
-            WaitTarget::Bell { bell, .. } => bell.wake(),
-            WaitTarget::Moment => moments.notify_all(),
+            WaitTarget::Cell(cell) => cell.wakes(),
+            WaitTarget::Bell { bell, .. } => bell.wakes(),
+            WaitTarget::Moment => moments,
         }
     }
 }
@@ -105,6 +106,26 @@ impl Noted {
     }
 }
 
+/// The watch, which a call that has woken leaves to nobody. It can't be dropped: who has it hands it on by `heir` when its
+/// wait ends, or enters with it when it sleeps again, or the program doesn't compile.
+pub(crate) struct OwedWatch {
+    // Where the call was noted.
+    place: usize,
+}
+
+/// A call that sleeps and is to watch. It can't be dropped: who has it wakes it.
+pub(crate) struct CalledWaiter<'a> {
+    target: &'a WaitTarget,
+}
+
+impl CalledWaiter<'_> {
+    /// Wakes it, where it sleeps: at the realm's `moments` if it waits for a moment alone.
+    pub(crate) fn wake(self, moments: &Wakes) {
+        let CalledWaiter { target } = self;
+        target.wakes(moments).wake();
+    }
+}
+
 /// The calls that sleep now and wait by a clock. One of them watches: it sleeps until the realm's next
 /// deadline. The others sleep until they are woken, or a deadline in effect for themselves. So a deadline
 /// wakes two calls at most, and not all. If nobody watches, one of them has been woken, and will watch or
@@ -124,17 +145,25 @@ impl TimedWaiters {
         }
     }
 
-    /// Notes that a call goes to sleep at the target; it watches, if nobody does. None if the note is refused
-    /// memory.
-    pub(crate) fn enter(&mut self, target: WaitTarget) -> Option<Noted>
-        ensures watches { IfSome result (λ noted. self.old.watcher ≡ None → self.new.watcher ≡ Some noted.place) }
-        ensures refused { IfNone result (self.new.watcher ≡ self.old.watcher) }
+    /// Notes that a call goes to sleep at the target; it watches, if nobody does, and owes no watch then. What it owes is
+    /// handed back if the note is refused memory.
+    pub(crate) fn enter(
+        &mut self,
+        target: WaitTarget,
+        owed: Option<OwedWatch>,
+    ) -> Result<Noted, Option<OwedWatch>>
+        ensures watches { IfOk result (λ noted. self.old.watcher ≡ None → self.new.watcher ≡ Some noted.place) }
+        ensures kept { IfOk result (λ _. IsSome self.new.watcher) }
+        ensures refused { IfErr result (λ back. (self.new.watcher ≡ self.old.watcher) × (back ≡ owed)) }
     {
-        let place = self.targets.insert(target).ok()?;
+        let Ok(place) = self.targets.insert(target) else {
+            return Err(owed);
+        };
         if self.watcher.is_none() {
             self.watcher = Some(place);
         }
-        Some(Noted { place, bell: None })
+        is_paid(owed);
+        Ok(Noted { place, bell: None })
     }
 
     /// Whether the call watches.
@@ -142,24 +171,43 @@ impl TimedWaiters {
         self.watcher == Some(noted.place)
     }
 
-    /// The call has woken, and watches no longer. Gives where its bell is noted.
-    pub(crate) fn leave(&mut self, noted: Noted) -> Option<(ScopeId, usize)>
-        ensures { self.new.watcher ≡ Some noted.place → ⊥ }
+    /// Whether the call watches, if it is to, and else somebody does.
+    pub(crate) fn is_watched(&self, noted: &Noted, watches: bool) -> bool
+        ensures { IsTrue result → IsSome self.now.watcher }
+    {
+        match self.watcher {
+            Some(place) => place == noted.place || !watches,
+            None => false,
+        }
+    }
+
+    /// The call has woken, and watches no longer. Gives where its bell is noted, and the watch, which the call owes then
+    /// if nobody keeps it.
+    pub(crate) fn leave(&mut self, noted: Noted) -> (Option<(ScopeId, usize)>, Option<OwedWatch>)
+        ensures left { self.new.watcher ≡ Some noted.place → ⊥ }
+        ensures owed { MatchOption result.1 (IsSome self.new.watcher) (λ _. self.new.watcher ≡ None) }
     {
         let Noted { place, bell } = noted;
         let _target = self.targets.try_remove(place);
         if self.watcher == Some(place) {
             self.watcher = None;
         }
-        bell
+        match self.watcher {
+            Some(_) => (bell, None),
+            None => (bell, Some(OwedWatch { place })),
+        }
     }
 
-    /// The target of a call that is to watch, if nobody does: of the last, whom a channel or a limiter serves last.
-    pub(crate) fn heir(&self) -> Option<&WaitTarget> {
+    /// Hands on the watch: gives the call that is to keep it, if nobody does and one sleeps. It is the last, whom a
+    /// channel or a limiter serves last.
+    pub(crate) fn heir(&self, owed: OwedWatch) -> Option<CalledWaiter<'_>>
+        ensures { self.now.watcher ≡ None → 0 < slab_len self.now.targets → IsSome result }
+    {
+        let OwedWatch { place: _ } = owed;
         match self.watcher {
             Some(_) => None,
             None => match self.targets.iter().next_back() {
-                Some((_, target)) => Some(target),
+                Some((_, target)) => Some(CalledWaiter { target }),
                 None => None,
             },
         }
@@ -175,5 +223,15 @@ impl TimedWaiters {
     /// The target that is noted at the index.
     pub(crate) fn target(&self, place: usize) -> Option<&WaitTarget> {
         self.targets.get(place)
+    }
+}
+
+/// The watch is kept by now, if it was owed.
+fn is_paid(owed: Option<OwedWatch>) {
+    match owed {
+        Some(owed) => {
+            let OwedWatch { place: _ } = owed;
+        }
+        None => {}
     }
 }

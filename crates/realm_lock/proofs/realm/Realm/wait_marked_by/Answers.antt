@@ -12,13 +12,6 @@ returns-then-is_over-clause-answer g c = passed_in c.loop.token c.marked_in_time
 pub returns-in-Ok-Some-clause-answer : goal.returns-in-Ok-Some-clause-answer
 returns-in-Ok-Some-clause-answer g c = passed_in c.loop.token c.marked_in_time.new.token c.loop.clock c.now-now.new.self c.now-now.result c.loop.invariant.2 c.now-now.ensures.read c.in-Ok-Some.ensures.passes
 
-pub loop-preserved-in-Some-target_of : goal.loop-preserved-in-Some-target_of
-loop-preserved-in-Some-target_of g c =
-    let new = c.marked_in_time.new.token in
-    let next = passed_in c.loop.token new c.loop.clock c.now-now.new.self c.now-now.result c.loop.invariant.2 c.now-now.ensures.read c.in-Ok-None.ensures.passes in
-    let unshown = none_of c.in-Ok-None.field-0 _ _ c.in-Ok-None.field-0-is c.in-Ok-None.ensures.mark in
-    ((tt, tt), waited_sees new c.now-now.new.self next, next, c.marked_in_time.ensures.cell, unshown.1 ∙ (sym unshown.0 ∙ c.loop.invariant.4))
-
 pub loop-preserved : goal.loop-preserved
 loop-preserved g c =
     let new = c.marked_in_time.new.token in

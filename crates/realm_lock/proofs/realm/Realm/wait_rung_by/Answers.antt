@@ -10,11 +10,6 @@ pub returns-then-has_rung-clause-answer : goal.returns-then-has_rung-clause-answ
 returns-then-has_rung-clause-answer g c =
     passes_in c.loop.token c.pass_due.new.token c.loop.clock c.now-now.new.self c.now-now.result c.in_default.field-0 c.loop.invariant.2 c.now-now.ensures.read c.in_default.ensures.passes
 
-pub loop-preserved-in-Some-target : goal.loop-preserved-in-Some-target
-loop-preserved-in-Some-target g c =
-    let next = passes_in c.loop.token c.pass_due.new.token c.loop.clock c.now-now.new.self c.now-now.result c.in_default.field-0 c.loop.invariant.2 c.now-now.ensures.read c.in_default.ensures.passes in
-    ((tt, tt), waited_sees c.pass_due.new.token c.now-now.new.self next, next)
-
 pub loop-preserved : goal.loop-preserved
 loop-preserved g c =
     let next = passes_in c.loop.token c.pass_due.new.token c.loop.clock c.now-now.new.self c.now-now.result c.in_default.field-0 c.loop.invariant.2 c.now-now.ensures.read c.in_default.ensures.passes in
