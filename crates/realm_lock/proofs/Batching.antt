@@ -1,19 +1,8 @@
 -- How a batch of forks goes on in one hold of the lock.
-use Rattle.std.proofs.Common.{◌≡◌, ℕ, ◌+◌, ◌<◌, true, false, List, [], ◌∷◌, ◌++◌, Ok, Err, length, take, drop, get_or, refl, sym, ap, ◌∙◌, subst}
-use Rattle.std.proofs.lemmas.List.{take_more, take-append-drop, append_assoc}
-use Rattle.scope_rules.specs.declared.types.events.Event.TheVariants.{Fork}
-use Rattle.scope_rules.specs.declared.types.refusals.Refusal.{Refusal}
-use Rattle.scope_rules.specs.Ends.{LabelValue}
-use Rattle.scope_rules.specs.Replies.{fork_reply}
-use Rattle.share_ledger.specs.declared.steps.RealmStep.{RealmStep}
-use Rattle.share_ledger.specs.declared.steps.RealmStep.TheVariants.{Happened}
-use Rattle.share_ledger.specs.Values.{OwnerValue}
-use Rattle.realm_core.specs.Cores.{CoreValue}
-use Rattle.realm_core.specs.declared.forking.Forked.{Forked}
-use Rattle.realm_core.specs.Calls.{Accepted, DoesOrMemory, Looked, SeesMore}
-use Rattle.realm_core.specs.Tasks.{reply_of, GivesTicket}
-use Rattle.realm_core.specs.Telling.{Stepped}
-use Rattle.realm_lock.specs.Batches.{forking, ForksNext, ForksEach, ForksAll, ForksSome}
+use Rattle.std.proofs.Common.{[], ℕ, ◌++◌, ◌+◌, ◌<◌, ◌∙◌, ◌∷◌, ◌≡◌, Err, List, Ok, ap, drop, false, get_or, length, refl, subst, sym, take, true}
+use Rattle.realm_lock.specs.{Accepted, Batches.forking, CoreValue, DoesOrMemory, Fork, Forked, ForksAll, ForksEach, ForksNext, ForksSome, GivesTicket, Happened, LabelValue, Looked, OwnerValue, RealmStep, Refusal, SeesMore}
+use Rattle.realm_lock.specs.{Stepped, fork_reply, reply_of}
+use Rattle.realm_lock.proofs.Words.{append_assoc, take-append-drop, take_more}
 
 -- one fork more, behind the others
 pub forks_more : (old mid : OwnerValue) (s : ℕ) (ls : List LabelValue) (fs : List Forked) (l : LabelValue) (f : Forked) → ForksEach old mid s ls fs → ForksNext mid s l f → ForksEach old (forking mid s l) s (ls ++ l ∷ []) (fs ++ f ∷ [])

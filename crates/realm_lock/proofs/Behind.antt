@@ -1,44 +1,14 @@
 -- By what calls do, setters come to lag behind at most so far that they can be brought up.
-use Rattle.std.proofs.Common.{◌≡◌, ℕ, zero, suc, ◌+◌, ◌<◌, Bool, true, false, not, ◌&&◌, nat_lt, nat_le, is_some, cond, Option, None, Some, Result, Ok, Err, List, [], ◌∷◌, ◌++◌, length, map, slice_get, refl, sym, ap, ◌∙◌, subst, arith, append-nil, append_assoc, length-append}
-use Rattle.std.specs.Prelude.{is_ok, IfOk}
-use Rattle.scope_rules.specs.declared.types.capacity.Limits.{Limits}
-use Rattle.scope_rules.specs.declared.types.events.Event.{Event}
+use Rattle.std.proofs.Common.{[], ℕ, ◌&&◌, ◌++◌, ◌+◌, ◌<◌, ◌∙◌, ◌∷◌, ◌≡◌, Bool, Err, IfOk, List, None, Ok, Option, Result, Some, ap, append-nil, append_assoc, arith, cond, false, is_ok, is_some, length, length-append, map, nat_le}
+use Rattle.std.proofs.Common.{nat_lt, not, refl, slice_get, subst, suc, sym, true, zero}
+use Rattle.realm_lock.specs.{AddsSetter, AreBehind, AreMarks, Ask, Asked, CellValue, CloseReport, CoreValue, DidPerform, EndedThere, Event, EventReply, Happened, History, IsCellAt, IsLegal, Legal, Limits, MarksValue, NoScope}
+use Rattle.realm_lock.specs.{Opening, Options, Origin, OwnerValue, Policy, RealmStep, Refusal, ReportedThere, Retired, Retirement, SetterValue, Stepped, Verdict, Words.Ends, advance, asked, end_step, followed, fresh, history_of}
+use Rattle.realm_lock.specs.{history_seen, is_open, known_scope, next_scope, numbers, opening, records, refuse_if, scope_check, step_by, stepping}
+use Rattle.realm_lock.proofs.Words.{beginning_legal, count_push, history-push, legal_history, open_told, opened_after, same_from_push}
+use Rattle.realm_lock.proofs.CancelsGrow.{grows_by, grows_on, mark_there, marked, no_more}
 use Rattle.scope_rules.specs.declared.types.events.Event.TheVariants as event
-use Rattle.scope_rules.specs.declared.types.events.Options.{Options}
-use Rattle.scope_rules.specs.declared.types.joiners.Policy.{Policy}
-use Rattle.scope_rules.specs.declared.types.answers.Verdict.{Verdict}
-use Rattle.scope_rules.specs.declared.types.records.Opening.{Opening}
-use Rattle.scope_rules.specs.declared.types.refusals.Refusal.{Refusal}
-use Rattle.scope_rules.specs.Origin.{Origin}
-use Rattle.scope_rules.specs.declared.types.refusals.Refusal.TheVariants.{NoScope, Retired}
-use Rattle.scope_rules.specs.Checks.{refuse_if, scope_check, known_scope}
-use Rattle.scope_rules.specs.History.{History, followed, is_open, opening}
-use Rattle.scope_rules.proofs.Innermosts.{opened_after}
-use Rattle.scope_rules.specs.Replies.{next_scope}
-use Rattle.scope_rules.specs.Legal.{Legal}
-use Rattle.scope_rules.proofs.Owing.{count_push}
-use Rattle.cancel_marks.specs.Seats.{CellValue, SetterValue}
-use Rattle.share_ledger.specs.declared.steps.RealmStep.{RealmStep}
-use Rattle.share_ledger.specs.declared.steps.RealmStep.TheVariants.{Happened, Asked, Retirement}
-use Rattle.share_ledger.specs.declared.steps.Ask.{Ask}
 use Rattle.share_ledger.specs.declared.steps.Ask.TheVariants as ask
-use Rattle.share_ledger.specs.Steps.{advance, asked, fresh, history_of, step_by, IsLegal}
-use Rattle.share_ledger.proofs.Histories.{history-push, legal_history, beginning_legal}
-use Rattle.std.proofs.lemmas.List.{same_from_push}
-use Rattle.scope_checks.specs.declared.event_replies.EventReply.{EventReply}
 use Rattle.scope_checks.specs.declared.event_replies.EventReply.TheVariants as told
-use Rattle.scope_checks.specs.EventReplies.{records}
-use Rattle.share_ledger.specs.Values.{OwnerValue}
-use Rattle.realm_core.specs.Calls.{history_seen, DidPerform}
-use Rattle.realm_core.specs.Cores.{CoreValue}
-use Rattle.realm_core.specs.Telling.{stepping, Stepped}
-use Rattle.realm_core.proofs.ToldCalls.{open_told}
-use Rattle.realm_core.specs.Closes.{EndedThere, ReportedThere}
-use Rattle.realm_core.specs.Ends.{Ends, end_step}
-use Rattle.realm_core.specs.Reports.{numbers}
-use Rattle.realm_core.specs.declared.reports.CloseReport.{CloseReport}
-use Rattle.realm_lock.specs.Marked.{AreMarks, AreBehind, AddsSetter, IsCellAt, MarksValue}
-use Rattle.realm_lock.proofs.CancelsGrow.{marked, mark_there, no_more, grows_by, grows_on}
 
 -- the step neither opens a scope nor lets any go
 abbrev pub keeps_scopes : RealmStep → Bool

@@ -1,26 +1,9 @@
 -- As a history goes on, marks stay, and new ones come behind them.
-use Rattle.std.proofs.Common.{◌≡◌, inl, inr, ℕ, zero, suc, ◌-◌, ◌<◌, ◌≤◌, max, Bool, true, false, not, cond, is_some, Option, None, Some, List, [], ◌∷◌, ◌++◌, length, get_or, AllPairs, Contains, filter, refl, sym, ap, ◌∙◌, subst, arith, length-append}
-use Rattle.std.proofs.lemmas.Bool.{both_ways, cases_lt}
-use Rattle.std.proofs.lemmas.List.{get_or_append_left, get_or-append_right}
-use Rattle.std.proofs.lemmas.List.Elements.{Contains-append_left, Contains-append_right, Contains-append_cases, Contains-get_or}
-use Rattle.std.proofs.lemmas.List.Kept.{AllPairs-filter}
-use Rattle.scope_rules.specs.declared.types.capacity.Limits.{Limits}
-use Rattle.scope_rules.specs.declared.types.events.Event.{Event}
-use Rattle.scope_rules.specs.declared.types.records.Opening.{Opening}
-use Rattle.scope_rules.specs.declared.types.records.FirstCancel.{FirstCancel}
-use Rattle.scope_rules.specs.History.{History, followed, opening}
-use Rattle.scope_rules.specs.Cancels.{first_cancel, cause, is_cancelled, cancelled_at}
-use Rattle.scope_rules.specs.Legal.{Legal}
-use Rattle.scope_rules.proofs.ChainsGrow.{cancel_new}
-use Rattle.scope_rules.proofs.Earlier.{opening_within, opening_shown}
-use Rattle.scope_rules.proofs.Growing.{opening_stays}
-use Rattle.scope_rules.proofs.OneEventMore.{opening_split}
-use Rattle.scope_rules.proofs.Staying.{cancel_opened, cancel_stays, cancel_within_history}
-use Rattle.cancel_marks.specs.declared.cancellation.Cancellation.{Cancellation}
-use Rattle.cancel_tree.specs.Order.{IsBefore, IsInOrder}
-use Rattle.cancel_tree.proofs.OrderLaws.{order_unique}
-use Rattle.scope_index.specs.CancelsOf.{IsCancelOrderOf}
-use Rattle.realm_lock.specs.Marked.{mark_of, CancelsGrow}
+use Rattle.std.proofs.Common.{[], ℕ, ◌++◌, ◌-◌, ◌<◌, ◌∙◌, ◌∷◌, ◌≡◌, ◌≤◌, AllPairs, Bool, Contains, List, None, Option, Some, ap, arith, cond, false, filter, get_or, inl, inr, is_some, length, length-append, max, not, refl, subst}
+use Rattle.std.proofs.Common.{suc, sym, true, zero}
+use Rattle.realm_lock.specs.{Cancellation, CancelsGrow, Event, FirstCancel, History, IsBefore, IsCancelOrderOf, IsInOrder, Legal, Limits, Opening, cancelled_at, cause, first_cancel, followed, is_cancelled, mark_of, opening}
+use Rattle.realm_lock.proofs.Words.{AllPairs-filter, Contains-append_cases, Contains-append_left, Contains-append_right, Contains-get_or, both_ways, cancel_new, cancel_opened, cancel_stays, cancel_within_history, cases_lt}
+use Rattle.realm_lock.proofs.Words.{get_or-append_right, get_or_append_left, opening_shown, opening_split, opening_stays, opening_within, order_unique}
 
 -- ---- what a mark says, by the scope's first cancel
 

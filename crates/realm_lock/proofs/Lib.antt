@@ -9,3 +9,4 @@ pub mod MarksStay
 pub mod Marking
 pub mod Behind
 pub mod Batching
+mod Words

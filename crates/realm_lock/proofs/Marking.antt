@@ -1,30 +1,11 @@
 -- How setters that lag behind are brought up to a history.
-use Rattle.std.proofs.Common.{◌≡◌, ◌≢◌, ◌⊎◌, inl, inr, ℕ, zero, suc, ◌+◌, ◌-◌, ◌<◌, ◌≤◌, true, Option, None, Some, option_map, List, [], ◌∷◌, ◌++◌, length, map, get_or, set, slice_get, AllPairs, eqb, refl, sym, ap, ◌∙◌, subst, arith, length-append}
-use Rattle.std.specs.List.{list_any}
-use Rattle.std.specs.Option.{option_and_then, option_or}
-use Rattle.std.proofs.lemmas.Bool.{cases_lt, cases_eq, eqb-true}
-use Rattle.std.proofs.lemmas.Bool.Decides.{Decides-eqb}
-use Rattle.std.proofs.lemmas.List.{get_or_append_left, get_or-append_right}
-use Rattle.std.proofs.lemmas.List.Elements.{Contains-get_or}
-use Rattle.std.proofs.lemmas.List.{get_or-map, length-map, length-set}
-use Rattle.std.proofs.lemmas.List.Folds.{Any-from_list_any}
-use Rattle.std.proofs.lemmas.Map.Made.{IsDistinct-from_AllPairs}
-use Rattle.std.proofs.lemmas.Map.Steps.{length-le_from_distinct_below}
-use Rattle.std.proofs.lemmas.Option.{slice_get_within, slice_get_read, slice_get-get_or, get_or_from_slice_get, same_Some}
-use Rattle.scope_rules.specs.declared.types.answers.Cause.{Cause}
-use Rattle.scope_rules.specs.Origin.{Origin}
-use Rattle.scope_rules.specs.History.{History, opened_count}
-use Rattle.scope_rules.specs.Cancels.{cause, is_cancelled, cancelled_at}
-use Rattle.scope_rules.proofs.Innermosts.{opened_after}
-use Rattle.cancel_marks.specs.declared.cancellation.Cancellation.{Cancellation}
-use Rattle.cancel_marks.specs.Seats.{CellValue, SetterValue}
-use Rattle.scope_checks.specs.Queries.{cancellation}
-use Rattle.scope_index.specs.CancelsOf.{IsCancelOrderOf}
-use Rattle.cancel_tree.proofs.OrderLaws.{order_unique}
-use Rattle.share_ledger.specs.Steps.{history_of}
-use Rattle.realm_core.specs.Cores.{CoreValue}
-use Rattle.realm_lock.specs.Marked.{mark_of, IsSetterOf, AreSetters, AreMarks, MarksValue, AreBehind, UsesSetter}
-use Rattle.realm_lock.proofs.CancelsGrow.{marked, mark_there, cancelled_there, order_grows}
+use Rattle.std.proofs.Common.{[], ℕ, ◌++◌, ◌+◌, ◌-◌, ◌<◌, ◌∙◌, ◌∷◌, ◌≡◌, ◌≢◌, ◌≤◌, ◌⊎◌, AllPairs, List, None, Option, Some, ap, arith, eqb, get_or, inl, inr, length, length-append, map, option_map, refl, set, slice_get, subst}
+use Rattle.std.proofs.Common.{suc, sym, true, zero}
+use Rattle.realm_lock.specs.{AreBehind, AreMarks, AreSetters, Cancellation, Cause, CellValue, CoreValue, History, IsCancelOrderOf, IsSetterOf, MarksValue, Origin, SetterValue, UsesSetter, cancellation, cancelled_at, cause}
+use Rattle.realm_lock.specs.{history_of, is_cancelled, list_any, mark_of, opened_count, option_and_then, option_or}
+use Rattle.realm_lock.proofs.Words.{Any-from_list_any, Contains-get_or, Decides-eqb, IsDistinct-from_AllPairs, cases_eq, cases_lt, eqb-true, get_or-append_right, get_or-map, get_or_append_left, get_or_from_slice_get}
+use Rattle.realm_lock.proofs.Words.{length-le_from_distinct_below, length-map, length-set, opened_after, order_unique, same_Some, slice_get-get_or, slice_get_read, slice_get_within}
+use Rattle.realm_lock.proofs.CancelsGrow.{cancelled_there, mark_there, marked, order_grows}
 
 -- there is one setter for each scope since the base, and those of the first n scopes in order of their
 -- cancellation were used as they should be; each other one too, unless it wasn't used

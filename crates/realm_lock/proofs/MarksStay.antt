@@ -1,19 +1,8 @@
 -- A mark stays as long as its scope has a number since the base.
-use Rattle.std.proofs.Common.{◌≡◌, ◌⊎◌, inl, inr, ℕ, ◌≤◌, Some, List, [], ◌∷◌, ◌++◌, refl, sym, ap, subst, arith, append-nil, append_assoc}
-use Rattle.scope_rules.specs.declared.types.capacity.Limits.{Limits}
-use Rattle.scope_rules.specs.declared.types.answers.Cause.{Cause}
-use Rattle.scope_rules.specs.History.{History}
-use Rattle.scope_rules.specs.Legal.{Legal}
-use Rattle.scope_rules.specs.Replies.{base_of}
-use Rattle.scope_rules.proofs.Innermosts.{opened_after}
-use Rattle.cancel_marks.specs.declared.cancellation.Cancellation.{Cancellation}
-use Rattle.share_ledger.specs.declared.steps.RealmStep.{RealmStep}
-use Rattle.share_ledger.specs.declared.steps.RealmStep.TheVariants.{Happened, Asked, Retirement}
-use Rattle.share_ledger.specs.Steps.{advance, asked, history_of, IsLegal}
-use Rattle.share_ledger.proofs.Histories.{history-push, legal_history, beginning_legal}
-use Rattle.realm_core.specs.Views.{IsMarkOf}
-use Rattle.realm_lock.specs.Marked.{mark_of}
-use Rattle.realm_lock.proofs.CancelsGrow.{marked, grows_by}
+use Rattle.std.proofs.Common.{[], ℕ, ◌++◌, ◌∷◌, ◌≡◌, ◌≤◌, ◌⊎◌, List, Some, ap, append-nil, append_assoc, arith, inl, inr, refl, subst, sym}
+use Rattle.realm_lock.specs.{Asked, Cancellation, Cause, Happened, History, IsLegal, IsMarkOf, Legal, Limits, RealmStep, Retirement, advance, asked, base_of, history_of, mark_of}
+use Rattle.realm_lock.proofs.Words.{beginning_legal, history-push, legal_history, opened_after}
+use Rattle.realm_lock.proofs.CancelsGrow.{grows_by, marked}
 
 -- the mark is still that of scope s, or s was retired
 abbrev MarkOrRetired : History → ℕ → Cancellation → Type 0

@@ -1,10 +1,7 @@
 -- A reject between two looks of a token is the last step of what the token has seen.
-use Rattle.std.proofs.Common.{◌≡◌, [], ◌∷◌, ◌++◌, ap, ◌∙◌, subst}
-use Rattle.share_ledger.specs.declared.steps.RealmStep.{RealmStep}
-use Rattle.share_ledger.specs.Steps.{IsLegal}
-use Rattle.share_ledger.specs.Values.{OwnerValue}
-use Rattle.realm_core.specs.Calls.{Added, Looked, SeesMore}
-use Rattle.realm_core.proofs.Others.{last_passes}
+use Rattle.std.proofs.Common.{[], ◌++◌, ◌∙◌, ◌∷◌, ◌≡◌, ap, subst}
+use Rattle.realm_lock.specs.{Added, IsLegal, Looked, OwnerValue, RealmStep, SeesMore}
+use Rattle.realm_lock.proofs.Words.{last_passes}
 
 pub seen_added : (old mid new : OwnerValue) (x : RealmStep) → Looked old mid → Looked mid new → new.seen ≡ mid.seen ++ x ∷ [] → SeesMore old new × Added old new x
 seen_added old mid new x first second is =

@@ -1,14 +1,8 @@
 -- What a later hold of a close did, distinguished from where the close began.
-use Rattle.std.proofs.Common.{◌≡◌, ℕ, List, Option, Some, Result, Ok, Err, subst}
-use Rattle.std.specs.Prelude.{IfOk}
-use Rattle.scope_rules.specs.declared.types.refusals.Refusal.{Refusal}
-use Rattle.share_ledger.specs.declared.steps.RealmStep.{RealmStep}
-use Rattle.share_ledger.specs.declared.steps.Holder.TheVariants.{TokenOf}
+use Rattle.std.proofs.Common.{ℕ, ◌≡◌, Err, IfOk, List, Ok, Option, Result, Some, subst}
 use Rattle.share_ledger.specs.Holders.{Agrees}
-use Rattle.realm_core.proofs.Joining.{agrees_on}
-use Rattle.share_ledger.specs.Values.{OwnerValue, TicketValue}
-use Rattle.realm_core.specs.Closes.{EndsReported, MayReport}
-use Rattle.realm_core.specs.declared.reports.CloseReport.{CloseReport}
+use Rattle.realm_lock.specs.{CloseReport, EndsReported, MayReport, OwnerValue, RealmStep, Refusal, TicketValue, TokenOf}
+use Rattle.realm_lock.proofs.Words.{agrees_on}
 
 from_seen : (old new : OwnerValue) (xs : List RealmStep) (s : ℕ) (tickets left : List TicketValue) (result : Result CloseReport Refusal) → Agrees (TokenOf old.actor) old.seen xs → MayReport (record old { seen = xs }) new s tickets left (Some result) → IfOk result (λ report. EndsReported old new s tickets report)
 from_seen old new xs s tickets left (Ok report) agrees it = record {

@@ -1,37 +1,13 @@
 -- Why who sleeps waits: what it waits for is not there yet, and no deadline has come.
-use Rattle.std.proofs.Common.{◌≡◌, inl, inr, ℕ, ◌<◌, ◌==◌, ◌||◌, ◌&&◌, Bool, true, false, not, nat_le, nat_lt, is_some, Result, Ok, Err, Option, Some, None, List, [], ◌∷◌, ◌++◌, refl, sym, ap, subst, ◌∙◌, arith}
-use Rattle.std.specs.Prelude.{if◌then◌else◌, IfOk, is_ok}
-use Rattle.scope_rules.specs.declared.types.capacity.Limits.{Limits}
-use Rattle.scope_rules.specs.declared.types.events.Event.TheVariants.{Join, Tick}
-use Rattle.scope_rules.specs.declared.types.refusals.Refusal.{Refusal}
-use Rattle.scope_rules.specs.declared.types.refusals.Refusal.TheVariants.{Memory, NoScope, NotOwner, Closed, AlreadyJoined, NoTask, WrongStage, NotReady, Retired}
-use Rattle.scope_rules.specs.History.{History, moment, opening, forking}
-use Rattle.scope_rules.specs.Cancels.{is_cancelled}
-use Rattle.scope_rules.specs.Scopes.{closing, joined}
-use Rattle.scope_rules.specs.Tasks.{is_running, ready, settled, stage}
-use Rattle.scope_rules.specs.Checks.{Checked, actor_check, checks, owns, refuse_if, scope_check, task_check, then_check, known_actor, known_scope, known_task}
-use Rattle.scope_rules.specs.Table.{check_of, row_check}
-use Rattle.scope_rules.proofs.Timed.{moment_grows}
+use Rattle.std.proofs.Common.{[], ℕ, ◌&&◌, ◌++◌, ◌<◌, ◌==◌, ◌||◌, ◌∙◌, ◌∷◌, ◌≡◌, Bool, Err, IfOk, List, None, Ok, Option, Result, Some, ap, arith, false, if◌then◌else◌, inl, inr, is_ok, is_some, nat_le, nat_lt, not, refl, subst}
+use Rattle.std.proofs.Common.{sym, true}
+use Rattle.scope_rules.specs.declared.types.events.Event.TheVariants.{Tick}
+use Rattle.realm_lock.specs.{AlreadyJoined, Asked, BareOutcome, Checked, Closed, CoreValue, EventReply, FoundUnsettled, Happened, HasCome, History, HoldsUp, IsBegun, IsHeldUp, Join, Joined, Joins, JoinsBare, Limits, Memory}
+use Rattle.realm_lock.specs.{NoScope, NoTask, NotOwner, NotReady, OwnerValue, Performed, Realm, RealmStep, Refusal, Refused, Retired, Stepped, Words.forking, WrongStage, actor_check, check_of, checks, closing, done, history_of}
+use Rattle.realm_lock.specs.{history_seen, is_cancelled, is_running, joined, known_actor, known_scope, known_task, moment, opening, owns, ready, records, refuse_if, row_check, scope_check, settled, stage, task_check, then_check}
+use Rattle.realm_lock.proofs.Words.{history-push, moment_grows}
 use Rattle.share_ledger.specs.declared.steps.Ask.TheVariants as ask
-use Rattle.share_ledger.specs.declared.steps.RealmStep.{RealmStep}
-use Rattle.share_ledger.specs.declared.steps.RealmStep.TheVariants.{Asked, Happened}
-use Rattle.share_ledger.specs.Steps.{history_of}
-use Rattle.share_ledger.proofs.Histories.{history-push}
-use Rattle.scope_index.specs.declared.bare.BareOutcome.{BareOutcome}
-use Rattle.scope_checks.specs.declared.event_replies.EventReply.{EventReply}
 use Rattle.scope_checks.specs.declared.event_replies.EventReply.TheVariants as told
-use Rattle.scope_checks.specs.EventReplies.{records}
-use Rattle.scope_rules.specs.Replies.{Realm}
-use Rattle.realm_core.specs.Calls.{Performed, Refused, done, history_seen}
-use Rattle.realm_core.specs.Cores.{CoreValue}
-use Rattle.realm_core.specs.Telling.{Stepped}
-use Rattle.realm_core.specs.Views.{Joins, JoinsBare}
-use Rattle.realm_core.specs.declared.joins.Joined.{Joined}
-use Rattle.realm_core.specs.Closes.{IsBegun}
-use Rattle.realm_core.specs.Waiting.{FoundUnsettled, HoldsUp}
-use Rattle.share_ledger.specs.Values.{OwnerValue}
-use Rattle.realm_lock.specs.Sleeps.{IsHeldUp}
-use Rattle.realm_lock.specs.Waits.{HasCome}
 
 -- ---- a join that is not ready
 

@@ -1,10 +1,7 @@
 -- What a call keeps that waits under the lock, from turn to turn.
-use Rattle.std.proofs.Common.{ℕ}
-use Rattle.share_ledger.specs.declared.steps.Holder.TheVariants.{TokenOf}
 use Rattle.share_ledger.specs.Holders.{Agrees}
-use Rattle.share_ledger.specs.Values.{OwnerValue}
-use Rattle.realm_core.specs.Calls.{SeesMore, history_seen}
-use Rattle.realm_core.specs.Closes.{IsBegun}
+use Rattle.realm_lock.specs.{IsBegun, OwnerValue, SeesMore, TokenOf, history_seen}
+use Rattle.realm_lock.proofs.Words.{ℕ}
 
 -- the token has seen what it had seen, and then steps of others; the close of scope s goes on
 abbrev pub IsClosing : OwnerValue → OwnerValue → ℕ → Type 0

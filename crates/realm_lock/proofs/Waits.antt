@@ -1,35 +1,12 @@
 -- What waits by a clock do, put together turn by turn.
-use Rattle.std.proofs.Common.{◌≡◌, ◌⊎◌, inl, inr, ℕ, Bool, true, false, nat_lt, Option, None, Some, Result, Ok, Err, List, [], ◌∷◌, ◌++◌, refl, ap, sym, subst, ◌∙◌, arith}
-use Rattle.std.specs.Prelude.{IfOk, IfErr, MatchOption, MatchResult}
-use Rattle.std.proofs.lemmas.Bool.{le-ltb}
-use Rattle.std.proofs.lemmas.List.{same_from_push}
-use Rattle.scope_rules.specs.declared.types.answers.Cancelling.{Cancelling}
-use Rattle.scope_rules.specs.declared.types.capacity.Limits.{Limits}
-use Rattle.scope_rules.specs.declared.types.capacity.TheConstants.{STEP_LOAD}
+use Rattle.std.proofs.Common.{[], ℕ, ◌++◌, ◌∙◌, ◌∷◌, ◌≡◌, ◌⊎◌, Bool, Err, IfErr, IfOk, List, MatchOption, MatchResult, None, Ok, Option, Result, Some, ap, arith, false, inl, inr, nat_lt, refl, subst, sym, true}
 use Rattle.scope_rules.specs.declared.types.events.Event.TheVariants.{Tick}
-use Rattle.scope_rules.specs.declared.types.refusals.Refusal.{Refusal}
-use Rattle.scope_rules.specs.declared.types.refusals.Refusal.TheVariants.{Memory, NotReady, TooMany}
-use Rattle.scope_rules.specs.History.{History, moment}
-use Rattle.scope_rules.specs.Load.{over_load}
-use Rattle.scope_rules.specs.Checks.{checks, then_check}
-use Rattle.scope_rules.specs.Table.{check_of, row_check}
+use Rattle.realm_lock.specs.{Asked, Begins, Cancelling, ClosesAfter, CoreValue, EventReply, HasCome, HasLooked, History, IsBegun, Joined, Joins, JoinsBy, JoinsInTime, Limits, Looked, LooksInTime, Memory, NotReady, OwnerValue}
+use Rattle.realm_lock.specs.{PassesDue, PassesTime, Performed, RealmStep, Refusal, STEP_LOAD, SeesMore, StaysUnclosed, Stepped, Stopped, StopsClosing, TickRefused, Ticks, TooMany, TurnRefused, Turns.Turns, Waited, WaitsToClose}
+use Rattle.realm_lock.specs.{began, check_of, checks, done, history_of, history_seen, looked, moment, over_load, read, records, row_check, then_check, ticked}
+use Rattle.realm_lock.proofs.Words.{begun_asked, begun_looked, le-ltb, same_from_push}
 use Rattle.share_ledger.specs.declared.steps.Ask.TheVariants as ask
-use Rattle.share_ledger.specs.declared.steps.RealmStep.{RealmStep}
-use Rattle.share_ledger.specs.declared.steps.RealmStep.TheVariants.{Asked}
-use Rattle.share_ledger.specs.Steps.{history_of}
-use Rattle.scope_checks.specs.declared.event_replies.EventReply.{EventReply}
 use Rattle.scope_checks.specs.declared.event_replies.EventReply.TheVariants as told
-use Rattle.scope_checks.specs.EventReplies.{records}
-use Rattle.share_ledger.specs.Values.{OwnerValue}
-use Rattle.realm_core.specs.Calls.{SeesMore, HasLooked, Looked, Performed, done, history_seen}
-use Rattle.realm_core.specs.Cores.{CoreValue}
-use Rattle.realm_core.specs.Telling.{Stepped}
-use Rattle.realm_core.specs.Views.{Joins}
-use Rattle.realm_core.specs.declared.joins.Joined.{Joined}
-use Rattle.realm_core.specs.Closes.{Begins, IsBegun}
-use Rattle.realm_core.proofs.Kept.{begun_asked, begun_looked}
-use Rattle.realm_lock.specs.Turns.{JoinsInTime, LooksInTime, PassesDue, PassesTime, TurnRefused, Turns}
-use Rattle.realm_lock.specs.Waits.{HasCome, JoinsBy, Ticks, TickRefused, Waited, began, looked, read, ticked, Stopped, WaitsToClose, StopsClosing, StaysUnclosed, ClosesAfter}
 
 -- a tick that is due is refused by the rules for the load alone
 full : (L : Limits) (h : History) (now : ℕ) (r : Refusal) → HasCome h now → check_of L h (Tick now) ≡ Err r → r ≡ TooMany

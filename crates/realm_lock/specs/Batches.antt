@@ -1,15 +1,6 @@
 -- What a batch of forks did in one hold of the lock, and gave.
-use Rattle.std.specs.Prelude.{◌≡◌, ℕ, ◌⊎◌, Ok, Err, List, [], ◌∷◌, ◌++◌}
-use Rattle.scope_rules.specs.declared.types.events.Event.TheVariants.{Fork}
-use Rattle.scope_rules.specs.declared.types.refusals.Refusal.{Refusal}
-use Rattle.scope_rules.specs.declared.types.refusals.Refusal.TheVariants.{Memory}
-use Rattle.scope_rules.specs.Ends.{LabelValue}
-use Rattle.scope_rules.specs.Replies.{fork_reply}
-use Rattle.share_ledger.specs.declared.steps.RealmStep.TheVariants.{Happened}
-use Rattle.share_ledger.specs.Values.{OwnerValue}
-use Rattle.realm_core.specs.declared.forking.Forked.{Forked}
-use Rattle.realm_core.specs.Calls.{Accepted, DoesOrMemory, Looked}
-use Rattle.realm_core.specs.Tasks.{reply_of, GivesTicket}
+use Rattle.std.specs.Prelude.{[], ℕ, ◌++◌, ◌∷◌, ◌≡◌, ◌⊎◌, Err, List, Ok}
+use Rattle.realm_lock.specs.Words.{Accepted, DoesOrMemory, Fork, Forked, GivesTicket, Happened, LabelValue, Looked, Memory, OwnerValue, Refusal, fork_reply, reply_of}
 
 -- the token with the fork of this label as the very next step that it has seen
 abbrev pub forking : OwnerValue → ℕ → LabelValue → OwnerValue

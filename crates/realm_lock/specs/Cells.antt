@@ -1,10 +1,6 @@
 -- What is answered if the cell of a scope is asked for.
-use Rattle.std.specs.Prelude.{◌≡◌, ℕ, ◌⊎◌, None, Result, Ok, Err}
-use Rattle.scope_rules.specs.declared.types.refusals.Refusal.{Refusal}
-use Rattle.scope_rules.specs.declared.types.refusals.Refusal.TheVariants.{Memory}
-use Rattle.scope_rules.specs.History.{History}
-use Rattle.scope_rules.specs.Checks.{scope_check}
-use Rattle.cancel_marks.specs.Seats.{CellValue, Seen}
+use Rattle.std.specs.Prelude.{ℕ, ◌≡◌, ◌⊎◌, Err, None, Ok, Result}
+use Rattle.realm_lock.specs.Words.{CellValue, History, Memory, Refusal, Seen, scope_check}
 
 -- the cell is that of scope s after h: it is refused for an unknown scope, and if a share of it is
 abbrev pub GivesCell : History → ℕ → Result CellValue Refusal → Type 0

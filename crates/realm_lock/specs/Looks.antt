@@ -1,11 +1,5 @@
 -- What is read off a realm without a token.
-use Rattle.std.specs.Prelude.{List}
-use Rattle.scope_rules.specs.declared.types.capacity.Limits.{Limits}
-use Rattle.scope_rules.specs.Ends.{EndValue, LabelValue}
-use Rattle.scope_rules.specs.History.{History}
-use Rattle.share_ledger.specs.declared.steps.RealmStep.{RealmStep}
-use Rattle.share_ledger.specs.Steps.{history_of, IsLegal}
-use Rattle.realm_state.specs.Fits.{Fitting}
+use Rattle.realm_lock.specs.Words.{EndValue, Fitting, History, IsLegal, LabelValue, Limits, List, RealmStep, history_of}
 
 -- it is so of a history that a realm may come to: that of a legal list of steps, in which each end fits its label.
 -- Which one it is, only a token can say, which says what its holder has seen.

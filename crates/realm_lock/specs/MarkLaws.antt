@@ -1,10 +1,6 @@
 -- What holds of marks that views accepted.
-use Rattle.std.specs.Prelude.{◌≡◌, ℕ, List, ◌++◌}
-use Rattle.scope_rules.specs.declared.types.capacity.Limits.{Limits}
-use Rattle.scope_rules.specs.declared.types.answers.Cause.{Cause}
-use Rattle.share_ledger.specs.declared.steps.RealmStep.{RealmStep}
-use Rattle.share_ledger.specs.Steps.{history_of, IsLegal}
-use Rattle.realm_core.specs.Views.{IsMarkOf}
+use Rattle.std.specs.Prelude.{ℕ, ◌++◌, ◌≡◌, List}
+use Rattle.realm_lock.specs.Words.{Cause, IsLegal, IsMarkOf, Limits, RealmStep, history_of}
 
 -- what is a mark of a scope after a list of steps, and what is one after a list that goes on from that, are equal
 abbrev pub AcceptedMarksAgree : Type 0

@@ -1,11 +1,6 @@
 -- What the setters of a realm's cells have told.
-use Rattle.std.specs.Prelude.{◌≡◌, ℕ, ◌+◌, ◌<◌, ◌≤◌, Option, None, Some, option_map, List, [], ◌∷◌, ◌++◌, length, slice_get}
-use Rattle.std.specs.Option.{option_and_then, option_or}
-use Rattle.scope_rules.specs.History.{History, opened_count}
-use Rattle.scope_rules.specs.Cancels.{cause, cancelled_at}
-use Rattle.scope_index.specs.CancelsOf.{IsCancelOrderOf}
-use Rattle.cancel_marks.specs.declared.cancellation.Cancellation.{Cancellation}
-use Rattle.cancel_marks.specs.Seats.{CellValue, SetterValue}
+use Rattle.std.specs.Prelude.{[], ℕ, ◌++◌, ◌+◌, ◌<◌, ◌∷◌, ◌≡◌, ◌≤◌, List, None, Option, Some, length, option_map, slice_get}
+use Rattle.realm_lock.specs.Words.{Cancellation, CellValue, History, IsCancelOrderOf, SetterValue, cancelled_at, cause, opened_count, option_and_then, option_or}
 
 -- the setters in the order of their scopes, for how many there is room, and of how many cancelled scopes
 -- they were used

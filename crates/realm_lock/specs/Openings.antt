@@ -1,8 +1,5 @@
 -- What an open answers beside the scope's number.
-use Rattle.std.specs.Prelude.{ℕ, Result, Ok, Err}
-use Rattle.scope_rules.specs.declared.types.refusals.Refusal.{Refusal}
-use Rattle.scope_rules.specs.declared.types.refusals.Refusal.TheVariants.{Memory}
-use Rattle.scope_rules.specs.Checks.{Checked}
+use Rattle.realm_lock.specs.Words.{ℕ, Checked, Err, Memory, Ok, Refusal, Result}
 
 -- what was answered, without the cell, and without what a refusal hands back
 abbrev pub scope_alone : {A B : Type 0} → Result (ℕ × A) (Refusal × B) → Result ℕ Refusal

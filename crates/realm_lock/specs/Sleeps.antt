@@ -1,10 +1,6 @@
 -- Over what nobody sleeps, and how long.
-use Rattle.std.specs.Prelude.{◌≡◌, ℕ, Option, None, Some, false, min}
-use Rattle.scope_rules.specs.History.{History}
-use Rattle.scope_rules.specs.Tasks.{settled}
-use Rattle.realm_core.specs.Waiting.{IsOpenOf, HoldsUp}
-use Rattle.realm_lock.specs.declared.lookouts.Wanted.{Wanted}
-use Rattle.realm_lock.specs.declared.lookouts.Wanted.TheVariants.{Scope, Sign}
+use Rattle.std.specs.Prelude.{ℕ, ◌≡◌, None, Option, Some, false, min}
+use Rattle.realm_lock.specs.Words.{History, HoldsUp, IsOpenOf, Scope, Sign, Wanted, settled}
 
 -- what is wanted isn't there after h, if it is a scope's: a task of the scope waits or runs
 abbrev pub Lacks : History → Wanted → Type 0

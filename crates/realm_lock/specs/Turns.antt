@@ -1,11 +1,7 @@
 -- What one hold of a wait by a clock does, which has read `now`.
-use Rattle.std.specs.Prelude.{◌≡◌, ℕ, ◌⊎◌, Bool, true, false, Result, Ok, Err}
-use Rattle.scope_rules.specs.declared.types.refusals.Refusal.{Refusal}
-use Rattle.share_ledger.specs.Values.{OwnerValue}
-use Rattle.realm_core.specs.Calls.{Looked}
-use Rattle.realm_core.specs.Views.{Joins}
-use Rattle.realm_core.specs.declared.joins.Joined.{Joined}
-use Rattle.realm_lock.specs.Waits.{Ticks, TickRefused}
+use Rattle.std.specs.Prelude.{ℕ, ◌≡◌, ◌⊎◌, Bool, Err, Ok, Result, false, true}
+use Rattle.realm_lock.specs.Words.{Joined, Joins, Looked, OwnerValue, Refusal}
+use Rattle.realm_lock.specs.Waits.{TickRefused, Ticks}
 
 -- whether it ticked; else it looked
 abbrev pub PassesDue : OwnerValue → OwnerValue → ℕ → Bool → Type 0

@@ -1,19 +1,8 @@
 -- What waits by a clock do. The clock is read, and the token looks, or ticks to what was read, once a
 -- deadline has come by then.
-use Rattle.std.specs.Prelude.{◌≡◌, ℕ, ◌≤◌, ◌⊎◌, Option, None, Some, Result, Ok, Err}
-use Rattle.scope_rules.specs.declared.types.answers.Cancelling.{Cancelling}
-use Rattle.scope_rules.specs.declared.types.refusals.Refusal.{Refusal}
-use Rattle.scope_rules.specs.declared.types.refusals.Refusal.TheVariants.{Memory, TooMany}
-use Rattle.scope_rules.specs.History.{History}
+use Rattle.std.specs.Prelude.{ℕ, ◌≡◌, ◌≤◌, ◌⊎◌, Err, None, Ok, Option, Result, Some}
 use Rattle.share_ledger.specs.declared.steps.Ask.TheVariants.{Tick}
-use Rattle.share_ledger.specs.declared.steps.RealmStep.TheVariants.{Asked}
-use Rattle.share_ledger.specs.Steps.{history_of}
-use Rattle.scope_index.specs.Coming.{IsNextDeadline}
-use Rattle.share_ledger.specs.Values.{OwnerValue}
-use Rattle.realm_core.specs.Calls.{SeesMore, Looked, Added, Refused, OutOfMemory, history_seen}
-use Rattle.realm_core.specs.Views.{Joins}
-use Rattle.realm_core.specs.declared.joins.Joined.{Joined}
-use Rattle.realm_core.specs.Closes.{IsBegun, Begins}
+use Rattle.realm_lock.specs.Words.{Added, Asked, Begins, Cancelling, History, IsBegun, IsNextDeadline, Joined, Joins, Looked, Memory, OutOfMemory, OwnerValue, Refusal, Refused, SeesMore, TooMany, history_of, history_seen}
 
 -- the deadline that comes next after h has come by the moment
 pub record HasCome (h : History) (now : ℕ) : Type 0 where

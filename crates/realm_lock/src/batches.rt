@@ -1,7 +1,5 @@
 ghost use Rattle.std.specs.Prelude.{◌≡◌, ◌⊎◌, IfErr, IfOk};
-ghost use Rattle.realm_state.specs.Fits.{Fitting};
-ghost use Rattle.realm_core.specs.Calls.{SeesMore, history_seen};
-ghost use Rattle.realm_lock.specs.Batches.{ForksAll, ForksUpTo};
+ghost use Rattle.realm_lock.specs.{Fitting, ForksAll, ForksUpTo, SeesMore, history_seen};
 
 use crate::realm::Realm;
 use realm_core::{Forked, RealmName};

@@ -1,12 +1,5 @@
-ghost use Rattle.std.specs.Prelude.{◌≡◌, ℕ, ◌⊎◌, List, IsOk, IfOk, IfErr};
-ghost use Rattle.std.specs.List.{All};
-ghost use Rattle.scope_rules.specs.declared.types.refusals.Refusal.TheVariants.{Memory, NotReady};
-ghost use Rattle.scope_rules.specs.Verdicts.{verdict};
-ghost use Rattle.share_ledger.specs.Values.{TicketValue};
-ghost use Rattle.realm_state.specs.Fits.{Fitting};
-ghost use Rattle.realm_core.specs.Calls.{SeesMore, history_seen};
-ghost use Rattle.realm_core.specs.Waiting.{IsOpenOf};
-ghost use Rattle.realm_core.specs.Closes.{IsBegun, Begins, EndsLater, ClosesBare, EndsReported, HoldsBack, ClosesWith, StaysOpen};
+ghost use Rattle.std.specs.Prelude.{ℕ, ◌≡◌, ◌⊎◌, IfErr, IfOk, IsOk, List};
+ghost use Rattle.realm_lock.specs.{All, Begins, ClosesBare, ClosesWith, EndsLater, EndsReported, Fitting, HoldsBack, IsBegun, IsOpenOf, Memory, NotReady, SeesMore, StaysOpen, TicketValue, history_seen, verdict};
 
 use crate::locked::LockedRealm;
 use crate::lookouts::{Until, Wanted};

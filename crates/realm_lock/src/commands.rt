@@ -1,8 +1,5 @@
-ghost use Rattle.std.specs.Prelude.{◌≡◌, [], IfOk};
-ghost use Rattle.scope_rules.specs.Replies.{fork_reply, base_of};
-ghost use Rattle.realm_state.specs.Fits.{Fitting};
-ghost use Rattle.realm_core.specs.Calls.{DoesOrMemory, Records, RecordsOrMemory, history_seen};
-ghost use Rattle.realm_core.specs.Tasks.{ticket_aside, GivesTicket};
+ghost use Rattle.std.specs.Prelude.{[], ◌≡◌, IfOk};
+ghost use Rattle.realm_lock.specs.{DoesOrMemory, Fitting, GivesTicket, Records, RecordsOrMemory, base_of, fork_reply, history_seen, ticket_aside};
 
 use crate::realm::Realm;
 use realm_core::{Forked, RealmName, reply_done, reply_noted};

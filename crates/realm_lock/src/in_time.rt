@@ -1,17 +1,7 @@
-ghost use Rattle.std.specs.Prelude.{◌≡◌, ◌↔◌, true, false, IsTrue, IfOk, None, Some, Ok, Err, MatchOption, MatchResult};
+ghost use Rattle.std.specs.Prelude.{◌↔◌, ◌≡◌, Err, IfOk, IsTrue, MatchOption, MatchResult, None, Ok, Some, false, true};
 ghost use Rattle.once_cell.specs.Once.{Agrees};
-ghost use Rattle.cancel_marks.specs.Marked.{said_by};
-ghost use Rattle.scope_rules.specs.declared.types.refusals.Refusal.TheVariants.{NotReady};
-ghost use Rattle.scope_rules.specs.Tasks.{settled};
-ghost use Rattle.share_ledger.specs.Steps.{history_of};
-ghost use Rattle.realm_state.specs.Fits.{Fitting};
-ghost use Rattle.realm_core.specs.Calls.{Looked, SeesMore, history_seen};
-ghost use Rattle.realm_core.specs.Closes.{IsBegun};
-ghost use Rattle.realm_core.specs.Telling.{Stepped};
-ghost use Rattle.realm_core.specs.Waiting.{FoundUnsettled};
-ghost use Rattle.realm_lock.specs.Sleeps.{IsHeldUp};
-ghost use Rattle.realm_lock.specs.Turns.{JoinsInTime, LooksInTime, PassesDue, PassesTime, TurnRefused};
-ghost use Rattle.realm_lock.specs.Waits.{HasCome, Ticks, TickRefused, shown_in};
+ghost use Rattle.realm_lock.specs.{Fitting, FoundUnsettled, HasCome, IsBegun, IsHeldUp, JoinsInTime, Looked, LooksInTime, NotReady, PassesDue, PassesTime, SeesMore, Stepped, TickRefused, Ticks, TurnRefused, history_of};
+ghost use Rattle.realm_lock.specs.{history_seen, said_by, settled, shown_in};
 
 use crate::locked::LockedRealm;
 use cancel_marks::{Mark, MarkCell, Seat};

@@ -1,7 +1,5 @@
 ghost use Rattle.std.specs.Prelude.{◌≡◌, Err};
-ghost use Rattle.realm_state.specs.Fits.{Fitting};
-ghost use Rattle.realm_core.specs.Calls.{history_seen};
-ghost use Rattle.realm_core.specs.Views.{Joins, JoinsBare};
+ghost use Rattle.realm_lock.specs.{Fitting, Joins, JoinsBare, history_seen};
 
 use crate::lookouts::{Until, Wanted};
 use crate::realm::Realm;

@@ -1,5 +1,5 @@
 //! What holds of marks that views accepted. The function does nothing: its contract is the law.
-ghost use Rattle.realm_lock.specs.MarkLaws.{AcceptedMarksAgree};
+ghost use Rattle.realm_lock.specs.{AcceptedMarksAgree};
 
 /// Two marks of one scope that views accepted (`Realm::view_with`) are equal, if the one token had seen by
 /// then what the other had, and perhaps more: as one context's own views, or two tokens' of which one was

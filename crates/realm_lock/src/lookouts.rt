@@ -1,5 +1,5 @@
 ghost use Rattle.std.specs.Prelude.{◌≡◌, false};
-ghost use Rattle.realm_lock.specs.Sleeps.{Lacks};
+ghost use Rattle.realm_lock.specs.{Lacks};
 
 use crate::locked::LockedRealm;
 use crate::timed_waiters::{BellWait, Noted, WaitTarget};

@@ -1,7 +1,6 @@
 //! A look at the whole of a realm.
 ghost use Rattle.std.specs.Prelude.{◌≡◌};
-ghost use Rattle.realm_core.specs.Calls.{Reads};
-ghost use Rattle.realm_lock.specs.Looks.{IsSeen};
+ghost use Rattle.realm_lock.specs.{IsSeen, Reads};
 
 use crate::realm::Realm;
 use realm_core::{RealmCore, RealmName};

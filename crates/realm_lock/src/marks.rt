@@ -1,6 +1,6 @@
 ghost use Rattle.std.specs.Prelude.{◌≡◌, Some};
 ghost use Rattle.once_cell.specs.Once.{Agrees};
-ghost use Rattle.cancel_marks.specs.Marked.{said_by};
+ghost use Rattle.realm_lock.specs.{said_by};
 
 use crate::lookouts::Wanted;
 use crate::realm::Realm;

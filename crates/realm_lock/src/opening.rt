@@ -1,11 +1,5 @@
-ghost use Rattle.std.specs.Prelude.{◌≡◌, IfOk, IfErr, MatchResult};
-ghost use Rattle.scope_rules.specs.Replies.{next_scope};
-ghost use Rattle.scope_book.specs.Books.{refusal_alone};
-ghost use Rattle.join_rules.specs.Joiners.{policy_of};
-ghost use Rattle.realm_state.specs.Fits.{Fitting};
-ghost use Rattle.realm_core.specs.Calls.{DoesOrMemory, Reads, history_seen};
-ghost use Rattle.realm_lock.specs.Openings.{scope_alone, scope_marked};
-ghost use Rattle.realm_lock.specs.Cells.{CellAnswers, IsFresh};
+ghost use Rattle.std.specs.Prelude.{◌≡◌, IfErr, IfOk, MatchResult};
+ghost use Rattle.realm_lock.specs.{CellAnswers, DoesOrMemory, Fitting, IsFresh, Reads, history_seen, next_scope, policy_of, refusal_alone, scope_alone, scope_marked};
 
 use crate::realm::Realm;
 use cancel_marks::{MarkCell, Seat};

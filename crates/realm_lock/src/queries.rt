@@ -1,12 +1,5 @@
 ghost use Rattle.std.specs.Prelude.{◌≡◌};
-ghost use Rattle.scope_rules.specs.Scopes.{innermost};
-ghost use Rattle.scope_rules.specs.Cancels.{effective};
-ghost use Rattle.scope_rules.specs.Tasks.{state};
-ghost use Rattle.scope_rules.specs.Checks.{task_check};
-ghost use Rattle.scope_rules.specs.Table.{answering, until_check};
-ghost use Rattle.scope_rules.specs.Replies.{result_reply, fault_reply, binding_reply};
-ghost use Rattle.realm_state.specs.Fits.{Fitting};
-ghost use Rattle.realm_core.specs.Calls.{Reads, history_seen};
+ghost use Rattle.realm_lock.specs.{Fitting, Reads, answering, binding_reply, effective, fault_reply, history_seen, innermost, result_reply, state, task_check, until_check};
 
 use crate::realm::Realm;
 use realm_core::RealmName;

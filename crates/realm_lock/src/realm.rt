@@ -1,7 +1,5 @@
-ghost use Rattle.std.specs.Prelude.{◌≡◌, [], IfOk, MatchResult, None};
-ghost use Rattle.scope_rules.specs.Scopes.{innermost};
-ghost use Rattle.scope_rules.specs.declared.types.refusals.Refusal.TheVariants.{Memory};
-ghost use Rattle.realm_core.specs.Calls.{history_seen};
+ghost use Rattle.std.specs.Prelude.{[], ◌≡◌, IfOk, MatchResult, None};
+ghost use Rattle.realm_lock.specs.{Memory, history_seen, innermost};
 
 use crate::locked::LockedRealm;
 use cancel_marks::Wakes;

@@ -1,8 +1,5 @@
-ghost use Rattle.std.specs.Prelude.{◌≡◌, ◌<◌, [], true, length, OnSome, IfOk};
-ghost use Rattle.scope_rules.specs.History.{opened_count};
-ghost use Rattle.scope_rules.specs.Cancels.{is_cancelled};
-ghost use Rattle.share_ledger.specs.Steps.{history_of};
-ghost use Rattle.realm_lock.specs.Marked.{AddsSetter, AreBehind, AreMarks, IsCellAt, UsesSetter};
+ghost use Rattle.std.specs.Prelude.{[], ◌<◌, ◌≡◌, IfOk, OnSome, length, true};
+ghost use Rattle.realm_lock.specs.{AddsSetter, AreBehind, AreMarks, IsCellAt, UsesSetter, history_of, is_cancelled, opened_count};
 
 use cancel_marks::{Bell, CellReservation, MarkCell, MarkSetter};
 use realm_core::{RealmCore, RealmName};

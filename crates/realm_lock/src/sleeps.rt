@@ -1,10 +1,5 @@
-ghost use Rattle.std.specs.Prelude.{◌≡◌, ◌-◌, ◌*◌, ℕ, None, Some};
-ghost use Rattle.std.specs.Option.{MatchOption};
-ghost use Rattle.std.specs.Duration.{as_nanos};
-ghost use Rattle.std.specs.Sync.Mutex.{mutex_guard_value};
-ghost use Rattle.share_ledger.specs.Steps.{history_of};
-ghost use Rattle.realm_lock.specs.Waits.{HasCome};
-ghost use Rattle.realm_lock.specs.Sleeps.{Lacks, NANOS, sooner};
+ghost use Rattle.std.specs.Prelude.{ℕ, ◌*◌, ◌-◌, ◌≡◌, None, Some};
+ghost use Rattle.realm_lock.specs.{HasCome, Lacks, MatchOption, NANOS, as_nanos, history_of, mutex_guard_value, sooner};
 
 use crate::locked::LockedRealm;
 use crate::lookouts::{Lookout, Wanted};

@@ -1,12 +1,5 @@
-ghost use Rattle.std.specs.Prelude.{◌≡◌, false, None, IsOk, MatchResult};
-ghost use Rattle.scope_rules.specs.Scopes.{innermost};
-ghost use Rattle.share_ledger.specs.Tickets.{given_in};
-ghost use Rattle.share_ledger.specs.Values.{IsWaiting};
-ghost use Rattle.realm_state.specs.Fits.{Fitting};
-ghost use Rattle.share_ledger.specs.Steps.{history_of};
-ghost use Rattle.realm_core.specs.Calls.{Added, SeesMore, TicketAdded, history_seen};
-ghost use Rattle.realm_core.specs.Tasks.{IsRunning, MayFinish};
-ghost use Rattle.realm_lock.specs.Endings.{Ends};
+ghost use Rattle.std.specs.Prelude.{◌≡◌, IsOk, MatchResult, None, false};
+ghost use Rattle.realm_lock.specs.{Added, Endings.Ends, Fitting, IsRunning, IsWaiting, MayFinish, SeesMore, TicketAdded, given_in, history_of, history_seen, innermost};
 
 use crate::realm::Realm;
 use realm_core::RealmName;

@@ -1,12 +1,6 @@
-ghost use Rattle.std.specs.Prelude.{◌≡◌, ◌≤◌, ℕ, IsTrue, None, Some, Ok, Err, IfOk, IfErr, IfSome, IsNone, MatchOption, MatchResult};
+ghost use Rattle.std.specs.Prelude.{ℕ, ◌≡◌, ◌≤◌, Err, IfErr, IfOk, IfSome, IsNone, IsTrue, MatchOption, MatchResult, None, Ok, Some};
 ghost use Rattle.once_cell.specs.Once.{Agrees};
-ghost use Rattle.cancel_marks.specs.Marked.{said_by};
-ghost use Rattle.scope_rules.specs.declared.types.refusals.Refusal.TheVariants.{NotReady};
-ghost use Rattle.realm_state.specs.Fits.{Fitting};
-ghost use Rattle.realm_core.specs.Calls.{SeesMore, history_seen};
-ghost use Rattle.realm_core.specs.Waiting.{FoundUnsettled, IsOpenOf};
-ghost use Rattle.realm_core.specs.Closes.{IsBegun};
-ghost use Rattle.realm_lock.specs.Waits.{HasCome, HasPassed, JoinsBy, StaysUnclosed, Stopped, StopsClosing, Waited, WaitsToClose, shown_in};
+ghost use Rattle.realm_lock.specs.{Fitting, FoundUnsettled, HasCome, HasPassed, IsBegun, IsOpenOf, JoinsBy, NotReady, SeesMore, StaysUnclosed, Stopped, StopsClosing, Waited, WaitsToClose, history_seen, said_by, shown_in};
 
 use crate::lookouts::{Until, Wanted};
 use crate::realm::Realm;

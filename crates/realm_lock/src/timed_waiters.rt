@@ -1,6 +1,5 @@
-ghost use Rattle.std.specs.Prelude.{◌≡◌, ◌<◌, IfErr, IfOk, IsSome, IsTrue, None, Some};
-ghost use Rattle.std.specs.Option.{MatchOption};
-ghost use Rattle.slab.specs.Slab.{slab_len};
+ghost use Rattle.std.specs.Prelude.{◌<◌, ◌≡◌, IfErr, IfOk, IsSome, IsTrue, None, Some};
+ghost use Rattle.realm_lock.specs.{MatchOption, slab_len};
 
 use cancel_marks::{Bell, MarkCell, Wakes};
 use scope_rules::ScopeId;

@@ -1,7 +1,5 @@
 ghost use Rattle.std.specs.Prelude.{◌≡◌, MatchResult};
-ghost use Rattle.realm_core.specs.Calls.{Reads};
-ghost use Rattle.realm_core.specs.Views.{ViewAnswers, MarkedViewAnswers};
-ghost use Rattle.realm_state.specs.Fits.{Fitting};
+ghost use Rattle.realm_lock.specs.{Fitting, MarkedViewAnswers, Reads, ViewAnswers};
 
 use crate::realm::Realm;
 use cancel_marks::Mark;

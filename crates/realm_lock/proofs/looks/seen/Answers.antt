@@ -1,5 +1,5 @@
-use Rattle.std.proofs.Common.{subst}
-use Rattle.scope_rules.specs.Replies.{Realm}
+use Rattle.realm_lock.specs.{Realm}
+use Rattle.realm_lock.proofs.Words.{subst}
 use Rattle.realm_lock.proofs.looks.seen.Goals as goal
 
 pub returns : goal.returns

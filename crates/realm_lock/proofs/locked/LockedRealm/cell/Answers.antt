@@ -1,10 +1,6 @@
-use Rattle.std.proofs.Common.{◌≡◌, ◌-◌, Ok, arith, sym, ap, ◌∙◌, subst}
-use Rattle.scope_rules.specs.History.{History}
-use Rattle.scope_rules.specs.Checks.{scope_check}
-use Rattle.scope_rules.specs.Replies.{Realm}
-use Rattle.share_ledger.specs.Steps.{history_of}
-use Rattle.realm_core.specs.Cores.{CoreValue}
-use Rattle.realm_lock.proofs.Behind.{scope_place, cell_there}
+use Rattle.std.proofs.Common.{◌-◌, ◌∙◌, ◌≡◌, Ok, ap, arith, subst, sym}
+use Rattle.realm_lock.specs.{CoreValue, History, Realm, history_of, scope_check}
+use Rattle.realm_lock.proofs.Behind.{cell_there, scope_place}
 use Rattle.realm_lock.proofs.locked.LockedRealm.cell.Goals as goal
 
 pub overflow_sub-place : goal.overflow_sub-place

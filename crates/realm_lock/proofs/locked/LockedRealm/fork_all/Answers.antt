@@ -1,8 +1,6 @@
-use Rattle.std.proofs.Common.{◌≡◌, ◌+◌, [], ◌∷◌, ◌++◌, length, take, drop, refl, sym, ap, ◌∙◌, subst, rules}
-use Rattle.std.proofs.Math.Seq.{take-length}
-use Rattle.std.proofs.lemmas.List.{take_more}
-use Rattle.realm_core.specs.Cores.{CoreValue}
-use Rattle.realm_lock.specs.Batches.{ForksAll}
+use Rattle.std.proofs.Common.{[], ◌++◌, ◌+◌, ◌∙◌, ◌∷◌, ◌≡◌, ap, drop, length, refl, rules, subst, sym, take}
+use Rattle.realm_lock.specs.{CoreValue, ForksAll}
+use Rattle.realm_lock.proofs.Words.{take-length, take_more}
 use Rattle.realm_lock.proofs.Batching.{forks_begin, forks_on, forks_stop, parted_at}
 use Rattle.realm_lock.proofs.locked.LockedRealm.fork_all.Goals as goal
 

@@ -1,8 +1,6 @@
 -- The labels before the index were forked, and there is room for what the others give.
-use Rattle.std.proofs.Common.{◌≡◌, ◌≤◌, length, take, vec_len}
-use Rattle.std.specs.Prelude.{vec_capacity}
-use Rattle.realm_state.specs.Fits.{Fitting}
-use Rattle.realm_core.specs.Calls.{history_seen}
+use Rattle.std.proofs.Common.{◌≡◌, ◌≤◌, length, take, vec_capacity, vec_len}
+use Rattle.realm_lock.specs.{Fitting, history_seen}
 use Rattle.realm_lock.proofs.Batching.{IsForking}
 use Rattle.realm_lock.proofs.locked.LockedRealm.fork_all.Given as goal
 

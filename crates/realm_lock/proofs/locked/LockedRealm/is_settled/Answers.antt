@@ -1,6 +1,5 @@
-use Rattle.std.proofs.Common.{ap}
-use Rattle.realm_core.proofs.Kept.{begun_looked}
-use Rattle.realm_core.specs.Cores.{CoreValue}
+use Rattle.realm_lock.specs.{CoreValue}
+use Rattle.realm_lock.proofs.Words.{ap, begun_looked}
 use Rattle.realm_lock.proofs.Sleeping.{held_at}
 use Rattle.realm_lock.proofs.locked.LockedRealm.is_settled.Goals as goal
 

@@ -1,4 +1,4 @@
-use Rattle.std.proofs.Common.{inr}
+use Rattle.realm_lock.proofs.Words.{inr}
 use Rattle.realm_lock.proofs.Waits.{begun_refused, begun_ticked}
 use Rattle.realm_lock.proofs.locked.LockedRealm.is_settled_in_time.Goals as goal
 

@@ -1,4 +1,4 @@
-use Rattle.std.proofs.Common.{inr}
+use Rattle.realm_lock.proofs.Words.{inr}
 use Rattle.realm_lock.proofs.Waits.{again_in, join_looked}
 use Rattle.realm_lock.proofs.locked.LockedRealm.join_in_time.Goals as goal
 

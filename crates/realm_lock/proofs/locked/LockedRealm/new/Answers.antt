@@ -1,5 +1,5 @@
-use Rattle.std.proofs.Common.{ap}
-use Rattle.realm_core.specs.Cores.{CoreValue}
+use Rattle.realm_lock.specs.{CoreValue}
+use Rattle.realm_lock.proofs.Words.{ap}
 use Rattle.realm_lock.proofs.Behind.{marks_begin}
 use Rattle.realm_lock.proofs.locked.LockedRealm.new.Goals as goal
 

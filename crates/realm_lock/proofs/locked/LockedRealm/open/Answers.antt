@@ -1,14 +1,6 @@
 -- An accepted open gives the next scope.
-use Rattle.std.proofs.Common.{ℕ, Ok, subst}
-use Rattle.scope_rules.specs.declared.types.events.Event.TheVariants.{Open}
-use Rattle.scope_rules.specs.declared.types.joiners.Policy.{Policy}
-use Rattle.scope_checks.specs.declared.event_replies.EventReply.{EventReply}
-use Rattle.realm_core.specs.Calls.{DidPerform}
-use Rattle.join_rules.specs.Joiners.{policy_of}
-use Rattle.realm_core.proofs.ToldCalls.{open_told}
-use Rattle.scope_checks.specs.EventReplies.{records}
-use Rattle.share_ledger.specs.declared.steps.RealmStep.TheVariants.{Happened}
-use Rattle.realm_core.specs.Telling.{Stepped}
+use Rattle.realm_lock.specs.{DidPerform, EventReply, Happened, Open, Policy, Stepped, policy_of, records}
+use Rattle.realm_lock.proofs.Words.{ℕ, Ok, open_told, subst}
 use Rattle.realm_lock.proofs.Behind.{behind_open, same_marks}
 use Rattle.realm_lock.proofs.locked.LockedRealm.open.Goals as goal
 

@@ -1,5 +1,4 @@
-use Rattle.scope_checks.specs.EventReplies.{records}
-use Rattle.share_ledger.specs.Steps.{step_by}
+use Rattle.realm_lock.specs.{records, step_by}
 use Rattle.realm_lock.proofs.Behind.{behind_stepped, step_keeps}
 use Rattle.realm_lock.proofs.locked.LockedRealm.perform.Goals as goal
 

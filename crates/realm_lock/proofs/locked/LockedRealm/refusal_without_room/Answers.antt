@@ -1,12 +1,5 @@
-use Rattle.std.proofs.Common.{◌≡◌, sym, subst, Err}
-use Rattle.scope_rules.specs.declared.types.events.Event.TheVariants.{Open}
-use Rattle.scope_rules.specs.declared.types.events.Options.{Options}
-use Rattle.scope_rules.specs.declared.types.joiners.Policy.{Policy}
-use Rattle.scope_rules.specs.declared.types.refusals.Refusal.{Refusal}
-use Rattle.scope_rules.specs.Table.{check_of}
-use Rattle.scope_rules.specs.Replies.{next_scope}
-use Rattle.share_ledger.specs.declared.steps.RealmStep.TheVariants.{Happened}
-use Rattle.realm_core.specs.Calls.{DoesOrMemory, history_seen}
+use Rattle.std.proofs.Common.{◌≡◌, Err, subst, sym}
+use Rattle.realm_lock.specs.{DoesOrMemory, Happened, Open, Options, Policy, Refusal, check_of, history_seen, next_scope}
 use Rattle.realm_lock.proofs.NoRoom.{no_room}
 use Rattle.realm_lock.proofs.locked.LockedRealm.refusal_without_room.Goals as goal
 

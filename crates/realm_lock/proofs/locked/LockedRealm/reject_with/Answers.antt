@@ -1,10 +1,6 @@
-use Rattle.std.proofs.Common.{true, [], ◌∷◌, ◌++◌, refl, ap, sym, ◌∙◌}
-use Rattle.scope_rules.specs.declared.types.events.Event.TheVariants.{Reject}
-use Rattle.share_ledger.specs.declared.steps.RealmStep.TheVariants.{Happened}
-use Rattle.realm_core.specs.Cores.{CoreValue}
-use Rattle.realm_core.specs.Telling.{stepping}
-use Rattle.realm_lock.proofs.Behind.{behind_stepped}
-use Rattle.realm_lock.proofs.Rejecting.{seen_added}
+use Rattle.std.proofs.Common.{[], ◌++◌, ◌∙◌, ◌∷◌, ap, refl, sym, true}
+use Rattle.realm_lock.specs.{CoreValue, Happened, Reject, stepping}
+use Rattle.realm_lock.proofs.{Behind.behind_stepped, Rejecting.seen_added}
 use Rattle.realm_lock.proofs.locked.LockedRealm.reject_with.Goals as goal
 
 pub returns-clause-token : goal.returns-clause-token

@@ -1,5 +1,5 @@
-use Rattle.std.proofs.Common.{ap, sym, ◌∙◌}
-use Rattle.realm_core.specs.Cores.{CoreValue}
+use Rattle.realm_lock.specs.{CoreValue}
+use Rattle.realm_lock.proofs.Words.{◌∙◌, ap, sym}
 use Rattle.realm_lock.proofs.Behind.{marks_retired}
 use Rattle.realm_lock.proofs.locked.LockedRealm.retire.Goals as goal
 

@@ -1,15 +1,7 @@
-use Rattle.std.proofs.Common.{◌≡◌, Result, refl, sym, subst}
-use Rattle.std.specs.Prelude.{MatchResult, IfOk}
-use Rattle.scope_rules.specs.declared.types.refusals.Refusal.{Refusal}
+use Rattle.std.proofs.Common.{◌≡◌, IfOk, MatchResult, Result, refl, subst, sym}
 use Rattle.share_ledger.specs.declared.steps.Ask.TheVariants.{Tick}
-use Rattle.share_ledger.specs.declared.steps.RealmStep.TheVariants.{Asked}
-use Rattle.share_ledger.specs.Steps.{history_of}
-use Rattle.realm_core.specs.Cores.{CoreValue}
-use Rattle.scope_checks.specs.EventReplies.{records}
-use Rattle.realm_lock.specs.Waits.{HasCome, Ticks, TickRefused}
-use Rattle.realm_lock.proofs.Behind.{behind_stepped}
-use Rattle.realm_lock.proofs.Sleeping.{tick_passed}
-use Rattle.realm_lock.proofs.Waits.{tick_done}
+use Rattle.realm_lock.specs.{Asked, CoreValue, HasCome, Refusal, TickRefused, Ticks, history_of, records}
+use Rattle.realm_lock.proofs.{Behind.behind_stepped, Sleeping.tick_passed, Waits.tick_done}
 use Rattle.realm_lock.proofs.locked.LockedRealm.tick_due.Goals as goal
 
 pub catch_up-requires : goal.catch_up-requires

@@ -1,6 +1,5 @@
-use Rattle.std.proofs.Common.{refl}
-use Rattle.realm_core.specs.Calls.{history_seen}
-use Rattle.realm_lock.specs.Waits.{began}
+use Rattle.realm_lock.specs.{began, history_seen}
+use Rattle.realm_lock.proofs.Words.{refl}
 use Rattle.realm_lock.proofs.Waits.{looked_in, of_first, stopped_in, waited_sees}
 use Rattle.realm_lock.proofs.realm.Realm.await_ends_by.Goals as goal
 

@@ -1,7 +1,5 @@
 -- The token and the clock are those of a wait so far, and the close goes on.
-use Rattle.realm_core.specs.Calls.{SeesMore, history_seen}
-use Rattle.realm_core.specs.Closes.{IsBegun}
-use Rattle.realm_lock.specs.Waits.{Waited}
+use Rattle.realm_lock.specs.{IsBegun, SeesMore, Waited, history_seen}
 use Rattle.realm_lock.proofs.realm.Realm.await_ends_by.Given as goal
 
 abbrev pub invariant-loop : goal.invariant-loop

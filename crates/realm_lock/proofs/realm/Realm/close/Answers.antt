@@ -1,5 +1,5 @@
-use Rattle.std.proofs.Common.{inr, subst}
-use Rattle.realm_core.specs.Closes.{Begins}
+use Rattle.realm_lock.specs.{Begins}
+use Rattle.realm_lock.proofs.Words.{inr, subst}
 use Rattle.realm_lock.proofs.realm.Realm.close.Goals as goal
 
 pub returns-in-Err-end_reporting-clause-refused : goal.returns-in-Err-end_reporting-clause-refused

@@ -1,5 +1,5 @@
-use Rattle.std.proofs.Common.{subst}
-use Rattle.realm_core.specs.Closes.{Begins}
+use Rattle.realm_lock.specs.{Begins}
+use Rattle.realm_lock.proofs.Words.{subst}
 use Rattle.realm_lock.proofs.realm.Realm.close_bare.Goals as goal
 
 pub returns-in-Ok-clause-answer : goal.returns-in-Ok-clause-answer

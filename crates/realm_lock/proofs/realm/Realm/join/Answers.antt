@@ -1,5 +1,4 @@
-use Rattle.std.proofs.Common.{Ok}
-use Rattle.realm_core.proofs.Joining.{joins_later}
+use Rattle.realm_lock.proofs.Words.{Ok, joins_later}
 use Rattle.realm_lock.proofs.realm.Realm.join.Goals as goal
 
 pub returns-in-Ok-clause-answer : goal.returns-in-Ok-clause-answer

@@ -1,7 +1,7 @@
 -- While it waits, the token has seen what it had seen, and then steps of others.
 use Rattle.std.proofs.Common.{◌≡◌}
-use Rattle.share_ledger.specs.declared.steps.Holder.TheVariants.{TokenOf}
 use Rattle.share_ledger.specs.Holders.{Agrees}
+use Rattle.realm_lock.specs.{TokenOf}
 use Rattle.realm_lock.proofs.realm.Realm.join.Given as goal
 
 abbrev pub invariant-loop : goal.invariant-loop

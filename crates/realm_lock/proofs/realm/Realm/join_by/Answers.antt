@@ -1,5 +1,5 @@
-use Rattle.std.proofs.Common.{Err, Ok, refl}
-use Rattle.realm_lock.specs.Waits.{began}
+use Rattle.realm_lock.specs.{began}
+use Rattle.realm_lock.proofs.Words.{Err, Ok, refl}
 use Rattle.realm_lock.proofs.Waits.{joined_in, unready_in, waited_sees}
 use Rattle.realm_lock.proofs.realm.Realm.join_by.Goals as goal
 

@@ -1,10 +1,6 @@
 -- Main's token has seen nothing, so no scope.
-use Rattle.std.proofs.Common.{◌≡◌, ◌∙◌, ap, refl, [], None, ℕ}
-use Rattle.scope_rules.specs.Search.{latest}
-use Rattle.scope_rules.specs.Scopes.{innermost}
-use Rattle.share_ledger.specs.Values.{OwnerValue}
-use Rattle.realm_core.specs.Calls.{history_seen}
-use Rattle.share_ledger.specs.Steps.{history_of}
+use Rattle.std.proofs.Common.{[], ℕ, ◌∙◌, ◌≡◌, None, ap, refl}
+use Rattle.realm_lock.specs.{OwnerValue, history_of, history_seen, innermost, latest}
 use Rattle.realm_lock.proofs.realm.Realm.new.Goals as goal
 
 no_scope_yet : (a : ℕ) → innermost (history_of []) a ≡ None

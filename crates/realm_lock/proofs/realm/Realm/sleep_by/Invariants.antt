@@ -1,6 +1,5 @@
 -- The token and the clock are those of a wait so far.
-use Rattle.realm_core.specs.Calls.{SeesMore}
-use Rattle.realm_lock.specs.Waits.{Waited}
+use Rattle.realm_lock.specs.{SeesMore, Waited}
 use Rattle.realm_lock.proofs.realm.Realm.sleep_by.Given as goal
 
 abbrev pub invariant-loop : goal.invariant-loop

@@ -1,5 +1,5 @@
-use Rattle.std.proofs.Common.{refl, sym, ◌∙◌}
-use Rattle.realm_lock.specs.Waits.{began}
+use Rattle.realm_lock.specs.{began}
+use Rattle.realm_lock.proofs.Words.{◌∙◌, refl, sym}
 use Rattle.realm_lock.proofs.Waits.{none_of, passed_in, waited_sees}
 use Rattle.realm_lock.proofs.realm.Realm.wait_marked_by.Goals as goal
 

@@ -1,7 +1,6 @@
 -- The token and the clock are those of a wait so far, and the seat is as it was.
 use Rattle.std.proofs.Common.{◌≡◌}
-use Rattle.realm_core.specs.Calls.{SeesMore}
-use Rattle.realm_lock.specs.Waits.{Waited}
+use Rattle.realm_lock.specs.{SeesMore, Waited}
 use Rattle.realm_lock.proofs.realm.Realm.wait_marked_by.Given as goal
 
 abbrev pub invariant-loop : goal.invariant-loop

@@ -1,5 +1,5 @@
-use Rattle.std.proofs.Common.{refl}
-use Rattle.realm_lock.specs.Waits.{began}
+use Rattle.realm_lock.specs.{began}
+use Rattle.realm_lock.proofs.Words.{refl}
 use Rattle.realm_lock.proofs.Waits.{passes_in, waited_sees}
 use Rattle.realm_lock.proofs.realm.Realm.wait_rung_by.Goals as goal
 

@@ -1,9 +1,6 @@
-use Rattle.std.proofs.Common.{◌≡◌, ◌+◌, length, slice_get, vec_capacity, arith, sym, ap, ◌∙◌, subst}
-use Rattle.scope_rules.specs.Cancels.{is_cancelled}
-use Rattle.scope_rules.specs.Replies.{Realm}
-use Rattle.realm_core.specs.Cores.{CoreValue}
-use Rattle.realm_lock.specs.Marked.{MarksValue}
-use Rattle.realm_lock.proofs.Marking.{IsPartway, way_begins, way_cancelled, way_counts, way_goes_on, way_ends}
+use Rattle.std.proofs.Common.{◌+◌, ◌∙◌, ◌≡◌, ap, arith, length, slice_get, subst, sym, vec_capacity}
+use Rattle.realm_lock.specs.{CoreValue, MarksValue, Realm, is_cancelled}
+use Rattle.realm_lock.proofs.Marking.{IsPartway, way_begins, way_cancelled, way_counts, way_ends, way_goes_on}
 use Rattle.realm_lock.proofs.setters.CancelSetters.catch_up.Goals as goal
 
 pub loop-next-init : goal.loop-next-init

@@ -1,5 +1,5 @@
 -- Part of the cancelled scopes have had their setters used, in the order of their cancellation.
-use Rattle.std.proofs.Common.{◌≡◌, ◌-◌, length}
+use Rattle.std.proofs.Common.{◌-◌, ◌≡◌, length}
 use Rattle.realm_lock.proofs.Marking.{IsPartway}
 use Rattle.realm_lock.proofs.setters.CancelSetters.catch_up.Given as goal
 

@@ -1,6 +1,6 @@
-use Rattle.std.proofs.Common.{ℕ, ◌-◌, length, get_or, set, arith, sym, ap, ◌∙◌}
-use Rattle.realm_lock.specs.Marked.{MarksValue}
-use Rattle.realm_lock.proofs.Marking.{cancelled_place, cancellation_there, mark_told, uses_setter}
+use Rattle.std.proofs.Common.{ℕ, ◌-◌, ◌∙◌, ap, arith, get_or, length, set, sym}
+use Rattle.realm_lock.specs.{MarksValue}
+use Rattle.realm_lock.proofs.Marking.{cancellation_there, cancelled_place, mark_told, uses_setter}
 use Rattle.realm_lock.proofs.setters.CancelSetters.use_setter.Goals as goal
 
 pub unreachable-requires : goal.unreachable-requires
