@@ -53,7 +53,7 @@ begun_has L h (BeginClose a t) s ok now =
     let is = opening_stays h (BeginClose a t) s it.opened it.is in (
       record { opened = it.opened; is = is },
       ap is_some (own_cancel_next h (BeginClose a t) s it.opened is)
-      ∙ some_either (own_cancel h s) _ (kind_begun (covers h t s) _ (length h.events) s now),
+          ∙ some_either (own_cancel h s) _ (kind_begun (covers h t s) _ (length h.events) s now),
     )
 begun_has L h _ s ok now = absurd cc
 

@@ -12,9 +12,9 @@ invariant_of-self-2 c =
     let added : IsAdded inside.tree row = (omega (arith, has.after), omega (arith, has.within)) in
     elim c.if-not-has_own_cancel.branch [
       | then-not-has_own_cancel+in_ok-set w ↦
-        rw c.set_deadline.ensures (rw w.self-inside-is (rw w.in_ok-set.ensures.set
-        (kept_move inside.before inside.moment row c.args.deadline inside.tree inside.accounts.items inside.deadlines added (sym c.has_own_cancel.ensures ∙ w.if-not-has_own_cancel.true) coming c.self.invariant)))
+          rw c.set_deadline.ensures (rw w.self-inside-is (rw w.in_ok-set.ensures.set
+          (kept_move inside.before inside.moment row c.args.deadline inside.tree inside.accounts.items inside.deadlines added (sym c.has_own_cancel.ensures ∙ w.if-not-has_own_cancel.true) coming c.self.invariant)))
       | else-not-has_own_cancel w ↦
-        rw c.set_deadline.ensures (rw w.self-inside-is
-        (kept_over inside.before inside.moment row c.args.deadline inside.tree inside.accounts.items inside.deadlines added (sym c.has_own_cancel.ensures ∙ w.if-not-has_own_cancel.false) c.self.invariant))
+          rw c.set_deadline.ensures (rw w.self-inside-is
+          (kept_over inside.before inside.moment row c.args.deadline inside.tree inside.accounts.items inside.deadlines added (sym c.has_own_cancel.ensures ∙ w.if-not-has_own_cancel.false) c.self.invariant))
     ]
