@@ -4,8 +4,8 @@ ghost use Rattle.std.specs.FinMap as map;
 
 use scope_rules::ScopeId;
 use std::alloc::{AllocError, Global};
-use std::collections::btree_set::Iter;
 use std::collections::BTreeSet;
+use std::collections::btree_set::Iter;
 use std::marker::Model;
 
 /// The deadlines of scopes, in milliseconds, in order: a finite map from scopes to moments, for a caller who
