@@ -1,5 +1,5 @@
 -- What a script of the code stands for.
-use Rattle.scope_script.specs.Words.{Script, realm_of}
+use Rattle.scope_script.specs.Terms.{Script, realm_of}
 use Rattle.scope_script.specs.ByBytes.{Session}
 
 abbrev pub session_of : {g : _} {f : _} {m : _} → Script g f m → Session

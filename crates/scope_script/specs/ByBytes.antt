@@ -1,6 +1,6 @@
 -- A script that comes byte by byte: what is kept of it, and what each byte is answered.
 use Rattle.std.specs.Prelude.{[], ℕ, ◌++◌, ◌==◌, ◌∷◌, List, Some, if◌then◌else◌}
-use Rattle.scope_script.specs.Words.{Limits, Realm, Tally, starting, the_start}
+use Rattle.scope_script.specs.Terms.{Limits, Realm, Tally, starting, the_start}
 use Rattle.scope_script.specs.{KeptLines.KeptLine, KeptLines.grown, KeptLines.is_blank, KeptLines.said, Sessions.bad_word_line, Sessions.line_reply, Sessions.realm_after_line, Tallies.no_refusals, Tallies.tally_after_line}
 use Rattle.scope_script.specs.{Tallies.with_bad_word}
 

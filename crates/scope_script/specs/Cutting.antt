@@ -1,6 +1,6 @@
 -- The lines of a script.
 use Rattle.std.specs.Prelude.{[], ℕ, ◌++◌, ◌==◌, ◌∷◌, ◌≡◌, Bool, List, false, if◌then◌else◌}
-use Rattle.scope_script.specs.Words.{list_any}
+use Rattle.scope_script.specs.Terms.{list_any}
 
 -- the lines that line feeds end, the first going on from what is begun
 unfoldable pub ended_lines : List ℕ → List ℕ → List (List ℕ)

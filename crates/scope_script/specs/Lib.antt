@@ -21,8 +21,8 @@ pub mod Books
 pub mod Streams
 pub mod Running
 pub mod Retiring
-pub mod Words
-unfoldable pub use Words.*
+pub mod Terms
+unfoldable pub use Terms.*
 pub use Books.*
 unfoldable pub use ByBytes.*
 unfoldable pub use Cutting.*

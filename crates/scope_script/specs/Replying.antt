@@ -1,8 +1,8 @@
 -- What a command is answered in a realm, and what it leaves of it.
 use Rattle.std.specs.Prelude.{[], ◌&&◌, ◌++◌, ◌∷◌, ◌≡◌, ◌⊎◌, Bool, Err, List, Ok, Result, false, if◌then◌else◌, is_ok, not, ok_or, true}
 use Rattle.script_words.specs.declared.commands.Command.{Command}
-use Rattle.scope_script.specs.Words.{Ask, Checked, Do, Event, EventReply, History, Memory, NotJoined, Origin, Query, Realm, Refusal, Reply, Retire, after_retiring, answering, base_of, binding_reply, cause, check_of, counts}
-use Rattle.scope_script.specs.Words.{effective, fault_reply, followed, fork_reply, is_already, next_scope, outcome, result_reply, retire_check, scope_check, stage, state, task_check, until_check, verdict, with_event}
+use Rattle.scope_script.specs.Terms.{Ask, Checked, Do, Event, EventReply, History, Memory, NotJoined, Origin, Query, Realm, Refusal, Reply, Retire, after_retiring, answering, base_of, binding_reply, cause, check_of, counts}
+use Rattle.scope_script.specs.Terms.{effective, fault_reply, followed, fork_reply, is_already, next_scope, outcome, result_reply, retire_check, scope_check, stage, state, task_check, until_check, verdict, with_event}
 use Rattle.scope_rules.specs.declared.types.events.Event.TheVariants as event
 use Rattle.scope_checks.specs.declared.event_replies.EventReply.TheVariants as told
 use Rattle.script_words.specs.declared.commands.Query.TheVariants as query

@@ -1,7 +1,7 @@
 -- A list of commands with its retirements, and the same without them.
 use Rattle.std.specs.Prelude.{[], ℕ, ◌++◌, ◌||◌, ◌∷◌, ◌≡◌, Bool, List, false, if◌then◌else◌, not, true}
 use Rattle.script_words.specs.declared.commands.Command.{Command}
-use Rattle.scope_script.specs.Words.{Ask, Do, Limits, Origin, Query, Realm, Refused, Reply, Retire, filter, flat_map, is_let_go, list_any, names_let_go, reply_text, starting, the_start}
+use Rattle.scope_script.specs.Terms.{Ask, Do, Limits, Origin, Query, Realm, Refused, Reply, Retire, filter, flat_map, is_let_go, list_any, names_let_go, reply_text, starting, the_start}
 use Rattle.scope_script.specs.Replying.{realm_after, reply_to}
 use Rattle.scope_rules.specs.declared.types.refusals.Refusal.TheVariants as refusal
 use Rattle.script_words.specs.declared.commands.Query.TheVariants as query

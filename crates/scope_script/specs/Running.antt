@@ -1,6 +1,6 @@
 -- What a run of a script has read, written and left behind.
 use Rattle.std.specs.Prelude.{ℕ, ◌≡◌, List, Option}
-use Rattle.scope_script.specs.Words.{Appends, Consumes, IsAtEnd, Limits, Mode, Realm, Tally}
+use Rattle.scope_script.specs.Terms.{Appends, Consumes, IsAtEnd, Limits, Mode, Realm, Tally}
 use Rattle.scope_script.specs.{Sessions.realm_of_script, Sessions.replies_of, Sessions.shown, Streams.AppendsPart, Tallies.tally_of_script}
 
 -- the run came to the end of its script: it read all bytes, wrote exactly the replies to them, and

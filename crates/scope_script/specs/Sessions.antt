@@ -1,7 +1,7 @@
 -- What a script is answered: the replies to its lines, and what they leave of the realm.
 use Rattle.std.specs.Prelude.{[], ℕ, ◌++◌, ◌∷◌, List}
 use Rattle.script_words.specs.declared.commands.Line.TheVariants.{Command}
-use Rattle.scope_script.specs.Words.{BadWord, Limits, Line, Mode, Quiet, Realm, Refused, Replies, Silent, line_said, reply_text, starting, the_start}
+use Rattle.scope_script.specs.Terms.{BadWord, Limits, Line, Mode, Quiet, Realm, Refused, Replies, Silent, line_said, reply_text, starting, the_start}
 use Rattle.scope_script.specs.{Cutting.begun_line, Cutting.ended_lines, Replying.realm_after, Replying.reply_to}
 use Rattle.scope_rules.specs.declared.types.refusals.Refusal.TheVariants.{BadWord as bad_word}
 

@@ -1,7 +1,7 @@
 -- How many lines of a script are refused.
 use Rattle.std.specs.Prelude.{[], ℕ, ◌+◌, ◌==◌, ◌∷◌, Bool, List, false, if◌then◌else◌, true}
 use Rattle.script_words.specs.declared.commands.Line.TheVariants.{Command}
-use Rattle.scope_script.specs.Words.{BadWord, Limits, Line, Realm, Refused, Reply, Silent, Tally, line_said, starting, the_start}
+use Rattle.scope_script.specs.Terms.{BadWord, Limits, Line, Realm, Refused, Reply, Silent, Tally, line_said, starting, the_start}
 use Rattle.scope_script.specs.{Cutting.begun_line, Cutting.ended_lines, Replying.reply_to, Sessions.realm_after_line}
 
 -- none so far
