@@ -42,9 +42,9 @@ spawns_first first_of parts works between left items taken back handles kept are
       taken = map parts taken;
       are = are ∙ (ap (λ xs. map parts xs ++ between) split ∙ (ap (λ xs. xs ++ between) (map-append parts taken back) ∙ (append_assoc (map parts taken) (map parts back) between ∙ ap (λ xs. map parts taken ++ xs) (sym put))));
       given =
-        ap (λ xs. map first_of xs) keeps
-        ∙ (sym (take-map first_of (length handles - length back) handles)
-        ∙ (ap (λ xs. take (length handles - length back) xs) all
-        ∙ (ap (λ n. take n (first ++ last)) count
-        ∙ (take-append_seam first last ∙ tickets_of parts taken))));
+          ap (λ xs. map first_of xs) keeps
+          ∙ (sym (take-map first_of (length handles - length back) handles)
+          ∙ (ap (λ xs. take (length handles - length back) xs) all
+          ∙ (ap (λ n. take n (first ++ last)) count
+          ∙ (take-append_seam first last ∙ tickets_of parts taken))));
     }

@@ -1,7 +1,6 @@
 ghost use Rattle.std.specs.Prelude.{◌≡◌, ◌↔◌, IsTrue, IfSome, MatchResult};
 ghost use Rattle.thread_pool.specs.Returns.{Returns};
 
-
 use crate::batches::{hand_back, make_items};
 use crate::handoffs::Handoff;
 use crate::items::{Finished, WayBack, WorkItem};

@@ -64,7 +64,7 @@ pub trait Spawns<N: RealmName, W: Ready>: Spawner<N> {
     /// be spawned by itself. An executor takes none in one go unless it says otherwise.
     fn spawn_all<R: Wait>(
         &mut self,
-        _rt: &R,
+        rt: &R,
         works: &mut VecDeque<(Ticket, W)>,
         handles: &mut Vec<Self::Handle>,
     )
@@ -72,8 +72,7 @@ pub trait Spawns<N: RealmName, W: Ready>: Spawner<N> {
         requires none { handles.old.items ≡ [] }
         requires room { deque_len works.old ≤ vec_capacity handles.old }
         ensures { SpawnsFirst Self.first_of works.old.items works.new.items handles.new.items }
-    {
-    }
+    {}
 }
 
 /// An executor that gives back works which no thread has taken yet, so that who has forked them can run them
