@@ -1,6 +1,7 @@
 ghost use Rattle.std.specs.Prelude.{◌≡◌, ◌==◌, ◌-◌, IsErr, MatchResult};
 
 use share_ledger::{RealmName, Ticket};
+use std::collections::VecDeque;
 use std::sync::Wait;
 use thread_pool::{Ready, Spawner, Spawns};
 
@@ -53,5 +54,17 @@ impl<N: RealmName, W: Ready, S: Spawns<N, W>> Spawns<N, W> for RefuseNth<S> {
             return Err((ticket, work));
         }
         self.inner.spawn(rt, ticket, work)
+    }
+
+    /// It takes what the other spawner takes, unless it is still to refuse one: then it takes none in one go.
+    fn spawn_all<R: Wait>(
+        &mut self,
+        rt: &R,
+        works: &mut VecDeque<(Ticket, W)>,
+        handles: &mut Vec<S::Handle>,
+    ) {
+        if self.left == 0 {
+            self.inner.spawn_all(rt, works, handles);
+        }
     }
 }

@@ -1,3 +1,4 @@
+pub mod Batched
 pub mod Moved
 pub mod Recalled
 pub mod Returned

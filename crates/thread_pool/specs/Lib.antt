@@ -1,3 +1,4 @@
 pub mod Returns
 pub mod PoolState
 pub mod Teams
+pub mod Batches

@@ -1,5 +1,5 @@
 -- A pool's state, as contracts see it, and what each call makes of it.
-use Rattle.std.specs.Prelude.{◌≡◌, ◌≢◌, ℕ, ◌+◌, ◌-◌, ◌^◌, ◌<◌, ◌≤◌, ◌⊎◌, ◌&&◌, not, min, Bool, true, false, if◌then◌else◌, nat_lt, List, [], ◌∷◌, ◌++◌, length, Option, Some, None, IsSome, is_some, option_to_list}
+use Rattle.std.specs.Prelude.{◌≡◌, ◌≢◌, ℕ, ◌+◌, ◌-◌, ◌^◌, ◌<◌, ◌≤◌, ◌⊎◌, ◌&&◌, ◌||◌, not, min, Bool, true, false, if◌then◌else◌, nat_lt, List, [], ◌∷◌, ◌++◌, length, Option, Some, None, IsSome, is_some, option_to_list}
 use Rattle.std.specs.List.{All}
 use Rattle.thread_pool.specs.declared.state.Answer.{Answer}
 use Rattle.thread_pool.specs.declared.state.Answer.TheVariants as answer
@@ -45,6 +45,10 @@ pub record PoolStateValue (O : Type 0) : Type 0 where
 abbrev pub takers : {O : Type 0} → Books O → ℕ
 takers b = b.resting + (if b.called then 1 else 0)
 
+-- how many of so many items there are threads for
+abbrev pub fitting : {O : Type 0} → ℕ → Books O → ℕ
+fitting items b = min items (takers b - length b.queue)
+
 -- no more threads rest than may. Until the pool is closed there are never more items than threads that will take one,
 -- and if there is one, a thread is on the way; then nobody rests
 pub record IsConsistent {O : Type 0} (b : Books O) : Type 0 where
@@ -66,6 +70,22 @@ pub record Takes {O T : Type 0} (item : O) (called : Option T) (old new : Books 
   pub left : new.resting + length (option_to_list called) ≡ old.resting
   pub became : new ≡ record old { queue = old.queue ++ item ∷ []; called = true; resting = new.resting }
 
+-- somebody is called who rested, exactly if there is an item and nobody is on the way
+abbrev pub is_calling : Bool → ℕ → ℕ → Bool
+is_calling called items resting = not called && nat_lt 0 items && nat_lt 0 resting
+
+-- the first of the items came into the queue: all for which there was a thread, if there was room, and none if the pool
+-- is closed. If there is an item then, a thread is on the way: who was called before, or one that rested
+pub record TakesFirst {O T : Type 0} (items left : List O) (called : Option T) (old : PoolStateValue O) (new : Books O) : Type 0 where
+  pub taken : List O
+  pub are : items ≡ taken ++ left
+  pub none : old.books.closed ≡ true → taken ≡ []
+  pub for_threads : old.books.closed ≡ false → length old.books.queue + length taken ≤ takers old.books
+  pub all : old.books.closed ≡ false → fitting (length items) old.books ≤ old.room.queue → length taken ≡ fitting (length items) old.books
+  pub calls : is_some called ≡ is_calling old.books.called (length new.queue) old.books.resting
+  pub resting : new.resting + length (option_to_list called) ≡ old.books.resting
+  pub became : new ≡ record old.books { queue = old.books.queue ++ taken; called = old.books.called || is_some called; resting = new.resting }
+
 -- why it did not: the pool is closed, or has no room; or there are as many items as threads that will take one
 abbrev pub IsRefused : {O : Type 0} → SubmitError → PoolStateValue O → Type 0
 IsRefused refused.Thread s = (s.books.closed ≡ false) × (takers s.books ≤ length s.books.queue)
@@ -75,10 +95,6 @@ IsRefused refused.Pool s = (s.books.closed ≡ true) ⊎ (s.room.queue ≡ 0)
 abbrev pub asked : {O : Type 0} → SubmitError → Books O → Books O
 asked refused.Thread b = record b { wanted = min (b.wanted + 1) (2 ^ 64 - 1) }
 asked refused.Pool b = b
-
--- somebody is called who rested, exactly if there is an item and nobody is on the way
-abbrev pub is_calling : Bool → ℕ → ℕ → Bool
-is_calling called items resting = not called && nat_lt 0 items && nat_lt 0 resting
 
 -- a thread was made for a fork; if none was, none could be
 abbrev pub Tells : {O : Type 0} → Answer O → Books O → Books O → Type 0

@@ -18,6 +18,10 @@ pub record TeamValue : Type 0 where
 abbrev pub HasRoom : TeamValue → Type 0
 HasRoom t = (1 ≤ t.handles) × (1 ≤ t.tickets)
 
+-- there is room for so many threads more, and for their returns
+abbrev pub HasRoomFor : ℕ → TeamValue → Type 0
+HasRoomFor threads t = (threads ≤ t.handles) × (threads ≤ t.tickets)
+
 -- the same threads and tickets, whatever room there is
 abbrev pub IsSameTeam : TeamValue → TeamValue → Type 0
 IsSameTeam old new = (new.running ≡ old.running) × (new.returned ≡ old.returned)
@@ -25,6 +29,10 @@ IsSameTeam old new = (new.running ≡ old.running) × (new.returned ≡ old.retu
 -- a thread more, whose work was given the ticket
 abbrev pub HasThreadMore : TicketValue → TeamValue → TeamValue → Type 0
 HasThreadMore first old new = (new.running ≡ old.running ++ first ∷ []) × (new.returned ≡ old.returned)
+
+-- threads more, in the order of the tickets that their works were given
+abbrev pub HasThreadsMore : List TicketValue → TeamValue → TeamValue → Type 0
+HasThreadsMore firsts old new = (new.running ≡ old.running ++ firsts) × (new.returned ≡ old.returned)
 
 -- no thread is left of scope s, or of one that was opened later
 abbrev pub AreJoined : ℕ → TeamValue → Type 0

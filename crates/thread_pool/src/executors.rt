@@ -1,6 +1,7 @@
 ghost use Rattle.std.specs.Prelude.{◌≡◌, ◌↔◌, IsTrue, IfSome, MatchResult};
 ghost use Rattle.thread_pool.specs.Returns.{Returns};
 
+use crate::batches::{hand_back, make_items};
 use crate::handoffs::Handoff;
 use crate::items::{Finished, WayBack, WorkItem};
 use crate::locks::PoolLock;
@@ -8,6 +9,7 @@ use crate::spawning::{Ready, Recalls, Spawner, Spawns};
 use scope_rules::{Label, ScopeId, TaskId};
 use share_ledger::{RealmName, Ticket};
 use std::alloc::Global;
+use std::collections::VecDeque;
 use std::snapshot::Snapshot;
 use std::sync::{Arc, Wait};
 
@@ -35,7 +37,7 @@ pub struct PoolHandle<N: RealmName> {
 
 impl<N: RealmName> PoolHandle<N> {
     /// The handle of the work that is given the ticket.
-    fn new(ticket: &Ticket, way_back: WayBack<N>) -> PoolHandle<N>
+    pub(crate) fn new(ticket: &Ticket, way_back: WayBack<N>) -> PoolHandle<N>
         ensures { result.first.value ≡ ticket.now }
     {
         PoolHandle {
@@ -111,6 +113,23 @@ impl<N: RealmName, W: Ready + Drop> Spawns<N, W> for OsThreads<N, W> {
             Err(item) => Err(item.into_parts()),
         }
     }
+
+    /// Threads that rest run the works, as many as there are: these works come into the queue in one hold of the
+    /// pool's lock. It makes no thread.
+    fn spawn_all<R: Wait>(
+        &mut self,
+        rt: &R,
+        works: &mut VecDeque<(Ticket, W)>,
+        handles: &mut Vec<PoolHandle<N>>,
+    ) {
+        let count = works.len().min(self.lock.threads_more(rt));
+        let Ok(mut items) = VecDeque::with_capacity(self.alloc, count) else {
+            return;
+        };
+        make_items(self.alloc, count, works, handles, &mut items);
+        self.lock.give_all(rt, &mut items);
+        hand_back(items, works, handles);
+    }
 }
 
 impl<N: RealmName, W: Ready + Drop> Recalls<N, W> for OsThreads<N, W> {
@@ -128,7 +147,7 @@ impl<N: RealmName, W: Ready + Drop> Recalls<N, W> for OsThreads<N, W> {
 }
 
 /// A way back, for who waits and for who runs the work.
-fn two_ends<N: RealmName>(alloc: Global) -> Option<(WayBack<N>, WayBack<N>)> {
+pub(crate) fn two_ends<N: RealmName>(alloc: Global) -> Option<(WayBack<N>, WayBack<N>)> {
     let one = Arc::new(alloc, Handoff::new()).ok()?;
     let other = Arc::try_clone(&one).ok()?;
     Some((one, other))

@@ -2,6 +2,7 @@
 //! threads that one owner makes.
 #![tactic(auto)]
 
+mod batches;
 mod executors;
 mod handoffs;
 mod items;

@@ -1,9 +1,10 @@
-ghost use Rattle.std.specs.Prelude.{◌≡◌, IfErr, IfSome};
+ghost use Rattle.std.specs.Prelude.{◌≡◌, ◌++◌, List, IfErr, IfSome};
 
 use crate::items::OfScope;
 use crate::state::{Answer, Called, Next, PoolState, SharedHandoff, SubmitError, Wish};
 use scope_rules::ScopeId;
 use std::alloc::{AllocError, Global};
+use std::collections::VecDeque;
 use std::sync::{Arc, Condvar, Mutex, Wait};
 use std::thread::Parker;
 
@@ -49,6 +50,20 @@ impl<O: Drop> PoolLock<O> {
                 }
             }
         }
+    }
+
+    /// Gives the first of the items, as many as there are threads for, to threads that rest, in one hold of the
+    /// lock. The others are left: it makes no thread, and takes none if the pool is closed or memory is refused.
+    pub(crate) fn give_all<R: Wait>(&self, rt: &R, items: &mut VecDeque<O>)
+        ensures { (taken : List O) × (items.old.items ≡ taken ++ items.new.items) }
+    {
+        let called = self.state.lock(rt).take_all(items);
+        wake(called);
+    }
+
+    /// For how many items more there are threads at this moment.
+    pub(crate) fn threads_more<R: Wait>(&self, rt: &R) -> usize {
+        self.state.lock(rt).threads_more()
     }
 
     /// Gives the item for which no thread could be made, to one that went idle meanwhile.

@@ -1,9 +1,13 @@
-ghost use Rattle.std.specs.Prelude.{◌≡◌, IfSome, MatchResult};
+ghost use Rattle.std.specs.Prelude.{◌≡◌, ◌≤◌, [], IfSome, MatchResult, vec_capacity};
+ghost use Rattle.std.specs.List.{All};
+ghost use Rattle.std.specs.VecDeque.{deque_len};
+ghost use Rattle.thread_pool.specs.Batches.{SpawnsFirst};
 ghost use Rattle.thread_pool.specs.Returns.{Returns};
 
 use crate::items::WorkItem;
 use scope_rules::ScopeId;
 use share_ledger::{RealmName, Ticket};
+use std::collections::VecDeque;
 use std::sync::Wait;
 
 /// Which tickets a work may be given.
@@ -54,6 +58,21 @@ pub trait Spawns<N: RealmName, W: Ready>: Spawner<N> {
     ) -> Result<Self::Handle, (Ticket, W)>
         requires { W.ready_for work ticket }
         ensures { MatchResult result (λ handle. Self.first_of handle ≡ ticket) (λ refused. (refused.0 ≡ ticket) × (refused.1 ≡ work)) };
+
+    /// Has the first of the works run, each with its ticket, as many as the executor takes in one go, and gives
+    /// their handles in their order. The others are left in their order, and nothing has come of them: each may
+    /// be spawned by itself. An executor takes none in one go unless it says otherwise.
+    fn spawn_all<R: Wait>(
+        &mut self,
+        rt: &R,
+        works: &mut VecDeque<(Ticket, W)>,
+        handles: &mut Vec<Self::Handle>,
+    )
+        requires ready { All (λ w. W.ready_for w.1 w.0) works.old.items }
+        requires none { handles.old.items ≡ [] }
+        requires room { deque_len works.old ≤ vec_capacity handles.old }
+        ensures { SpawnsFirst Self.first_of works.old.items works.new.items handles.new.items }
+    {}
 }
 
 /// An executor that gives back works which no thread has taken yet, so that who has forked them can run them

@@ -1,8 +1,8 @@
 //! The state of a pool, as data: what each call makes of it.
-ghost use Rattle.std.specs.Prelude.{◌≡◌, ◌≢◌, ◌+◌, ◌<◌, ◌≤◌, ◌||◌, ◌↔◌, IsTrue, vec_len, ℕ, [], ◌∷◌, ◌++◌, OnOk, IfSome, MatchOption, MatchResult, is_some, length, option_to_list, slice_index_or, true};
+ghost use Rattle.std.specs.Prelude.{◌≡◌, ◌≢◌, ◌+◌, ◌-◌, ◌<◌, ◌≤◌, ◌||◌, vec_len, ℕ, [], ◌∷◌, ◌++◌, OnOk, IfSome, MatchOption, MatchResult, drop, is_some, length, option_to_list, slice_index_or, take, true, false};
 ghost use Rattle.std.specs.List.{All};
-ghost use Rattle.std.specs.VecDeque.{deque_len};
-ghost use Rattle.thread_pool.specs.PoolState.{Comes, Goes, HasRoomFor, IsTold, IsRefused, Takes, TakesLast, Tells, Wishes, asked, is_calling, nobody, takers};
+ghost use Rattle.std.specs.VecDeque.{deque_len, deque_capacity};
+ghost use Rattle.thread_pool.specs.PoolState.{Comes, Goes, HasRoomFor, IsTold, IsRefused, Takes, TakesFirst, TakesLast, Tells, Wishes, asked, fitting, is_calling, nobody, takers};
 
 use crate::handoffs::Handoff;
 use crate::items::OfScope;
@@ -131,7 +131,7 @@ impl<O: Drop> PoolState<O> {
         if self.closed {
             return Err((SubmitError::Pool, item));
         }
-        if !self.has_thread_more() {
+        if self.threads_more() == 0 {
             return Err((SubmitError::Thread, item));
         }
         match self.queue.push_back(item) {
@@ -151,15 +151,41 @@ impl<O: Drop> PoolState<O> {
         taken
     }
 
-    /// Whether more threads rest, or were called, than there are items in the queue.
-    fn has_thread_more(&self) -> bool
-        ensures { IsTrue result ↔ (length self.now.books.queue < takers self.now.books) }
+    /// Takes the first of the items into the queue, as many as there are threads for, and says who is to be
+    /// woken; the others are left. It takes none if the pool is closed, or memory is refused.
+    pub(crate) fn take_all(&mut self, items: &mut VecDeque<O>) -> Option<Called<O>>
+        ensures { TakesFirst items.old.items items.new.items result self.old self.new.books }
     {
-        if self.called {
-            self.queue.len() <= self.resting.len()
-        } else {
-            self.queue.len() < self.resting.len()
+        let count = self.fitting(items.len());
+        move_first(items, &mut self.queue, count);
+        call(&mut self.resting, &self.queue, &mut self.called)
+    }
+
+    /// How many of so many items there are threads and room for.
+    fn fitting(&mut self, items: usize) -> usize
+        ensures same { self.new.books ≡ self.old.books }
+        ensures none { self.old.books.closed ≡ true → result ≡ 0 }
+        ensures items { result ≤ items }
+        ensures room { result ≤ self.new.room.queue }
+        ensures threads { self.old.books.closed ≡ false → length self.old.books.queue + result ≤ takers self.old.books }
+        ensures all { let most = fitting items self.old.books in self.old.books.closed ≡ false → most ≤ self.old.room.queue → result ≡ most }
+    {
+        if self.closed {
+            return 0;
         }
+        let count = items.min(self.threads_more());
+        match self.queue.reserve(count) {
+            Ok(()) => count,
+            Err(_) => 0,
+        }
+    }
+
+    /// For how many items more there are threads, which rest or were called.
+    pub(crate) fn threads_more(&self) -> usize
+        ensures { result ≡ takers self.now.books - length self.now.books.queue }
+    {
+        let called = if self.called { 1 } else { 0 };
+        (self.resting.len() + called).saturating_sub(self.queue.len())
     }
 
     /// What a fork that asked is told; nothing as long as the maker gave no answer that is left. It takes
@@ -186,6 +212,21 @@ impl<O: Drop + OfScope> PoolState<O> {
     {
         let place = last_of(&self.queue, scope)?;
         self.queue.remove(place)
+    }
+}
+
+/// Moves so many items, the first, to the end of the queue, where there is room for them.
+fn move_first<O>(items: &mut VecDeque<O>, queue: &mut VecDeque<O>, count: usize)
+    requires items { count ≤ deque_len items.old }
+    requires room { count ≤ deque_capacity queue.old - deque_len queue.old }
+    ensures moved { queue.new.items ≡ queue.old.items ++ take count items.old.items }
+    ensures left { items.new.items ≡ drop count items.old.items }
+{
+    for _ in 0..count {
+        let Some(item) = items.pop_front() else {
+            unreachable!()
+        };
+        queue.push_back_reserved(item);
     }
 }
 

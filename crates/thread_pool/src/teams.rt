@@ -1,15 +1,16 @@
 //! The threads that one owner makes, and the tickets of those that it joined.
 
-ghost use Rattle.std.specs.Prelude.{◌≡◌, ◌<◌, ◌≤◌, ◌++◌, ◌∷◌, ℕ, [], OnOk, IfSome, MatchOption, length, nat_lt, slice_index_or};
+ghost use Rattle.std.specs.Prelude.{◌≡◌, ◌<◌, ◌≤◌, ◌++◌, ◌∷◌, ℕ, [], OnOk, IfSome, MatchOption, length, map, nat_lt, slice_index_or, vec_len};
 ghost use Rattle.std.specs.List.{All, filter};
 ghost use Rattle.std.specs.List.Sorted.{IsPermutation};
 ghost use Rattle.share_ledger.specs.Values.{TicketValue};
-ghost use Rattle.thread_pool.specs.Teams.{ArePartedAt, HasRoom, HasThreadMore, IsSameTeam, Joins};
+ghost use Rattle.thread_pool.specs.Teams.{ArePartedAt, HasRoom, HasRoomFor, HasThreadMore, HasThreadsMore, IsSameTeam, Joins};
 
 use crate::spawning::Spawner;
 use scope_rules::types::values::ScopeId;
 use share_ledger::{OfRealm, RealmName, Ticket};
 use std::alloc::{AllocError, Global};
+use std::collections::VecDeque;
 use std::marker::Model;
 use std::sync::Wait;
 
@@ -78,6 +79,28 @@ impl<N: RealmName, S: Spawner<N>> Team<N, S> {
         ensures { HasThreadMore (S.first_of handle) self.old self.new }
     {
         self.running.push_reserved(Thread { scope, handle });
+    }
+
+    /// Makes room for so many threads more, and for their returns. Refused if memory is.
+    pub fn reserve_for(&mut self, threads: usize) -> Result<(), AllocError>
+        ensures same { IsSameTeam self.old self.new }
+        ensures room { OnOk result (HasRoomFor threads self.new) }
+    {
+        self.running.reserve(threads)?;
+        let returns = self.running.len().saturating_add(threads);
+        self.returned.reserve(returns)
+    }
+
+    /// Adds threads of the scope, for which there is room, in their order.
+    pub fn add_all(&mut self, scope: ScopeId, handles: Vec<S::Handle>)
+        requires room { HasRoomFor (vec_len handles) self.old }
+        requires of { All (λ (t : TicketValue). t.scope ≡ scope) (map S.first_of handles.items) }
+        ensures { HasThreadsMore (map S.first_of handles.items) self.old self.new }
+    {
+        let mut handles = VecDeque::from_vec(handles);
+        while let Some(handle) = handles.pop_front() {
+            self.running.push_reserved(Thread { scope, handle });
+        }
     }
 
     /// Adds the ticket of a work that its owner ran itself, for which there is room.
