@@ -1,9 +1,7 @@
 -- Works that are made items, some of which come back.
-use Rattle.std.proofs.Common.{◌≡◌, ℕ, ◌-◌, ◌+◌, List, [], ◌∷◌, ◌++◌, length, map, take, refl, sym, ap, ◌∙◌, arith}
-use Rattle.std.proofs.lemmas.List.{append_assoc, length-append, length-map, map-append, map_push, take-map}
-use Rattle.std.proofs.Math.Seq.{take-append_seam}
-use Rattle.share_ledger.specs.Values.{TicketValue}
-use Rattle.thread_pool.specs.Batches.{SpawnsFirst}
+use Rattle.std.proofs.Common.{[], ℕ, ◌++◌, ◌+◌, ◌-◌, ◌∙◌, ◌∷◌, ◌≡◌, List, ap, arith, length, map, refl, sym, take}
+use Rattle.thread_pool.specs.{SpawnsFirst, TicketValue}
+use Rattle.thread_pool.proofs.Words.{append_assoc, length-append, length-map, map-append, map_push, take-append_seam, take-map}
 
 -- one element crosses the seam
 crossed : {I X : Type 0} (parts : I → X) (less more : List I) (i : I) (rest : List X) → more ≡ less ++ i ∷ [] → map parts less ++ parts i ∷ rest ≡ map parts more ++ rest

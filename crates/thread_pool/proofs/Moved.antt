@@ -1,9 +1,7 @@
 -- Lists whose elements are taken from one to another, one at a time.
-use Rattle.std.proofs.Common.{◌≡◌, ◌≢◌, ℕ, ◌+◌, ◌-◌, ◌==◌, ◌<◌, ◌≤◌, Bool, true, false, List, [], ◌∷◌, ◌++◌, slice_index_or, refl, sym, subst, arith}
-use Rattle.std.proofs.lemmas.Bool.Decides.{nat_tests}
-use Rattle.std.specs.List.Sorted.{IsPermutation}
-use Rattle.std.proofs.lemmas.List.{append_assoc}
-use Rattle.std.proofs.lemmas.List.Sorted.{IsPermutation-append_right}
+use Rattle.std.proofs.Common.{[], ℕ, ◌++◌, ◌+◌, ◌-◌, ◌<◌, ◌==◌, ◌∷◌, ◌≡◌, ◌≢◌, ◌≤◌, Bool, List, arith, false, refl, slice_index_or, subst, sym, true}
+use Rattle.thread_pool.specs.{IsPermutation}
+use Rattle.thread_pool.proofs.Words.{IsPermutation-append_right, append_assoc, nat_tests}
 
 -- one of the second list is put behind the first
 pub one_moved : {X : Type 0} → (xs ys : List X) (x : X) (zs : List X) → IsPermutation ys (x ∷ zs) → IsPermutation (xs ++ ys) ((xs ++ x ∷ []) ++ zs)

@@ -1,8 +1,7 @@
 -- An item that is taken out of a queue, behind which none is of its scope.
-use Rattle.std.proofs.Common.{◌≡◌, ◌≢◌, ℕ, ◌+◌, ◌<◌, suc, List, ◌∷◌, ◌++◌, Option, Some, None, IsSome, IfSome, OnSome, MatchOption, length, length-drop, slice_index_or, take, drop, drop-cons, sym, ap, subst, ◌∙◌, arith}
-use Rattle.std.specs.List.{All, remove}
-use Rattle.std.proofs.lemmas.List.{get_or-drop, take-append-drop}
-use Rattle.thread_pool.specs.PoolState.{Books, TakesLast}
+use Rattle.std.proofs.Common.{ℕ, ◌++◌, ◌+◌, ◌<◌, ◌∙◌, ◌∷◌, ◌≡◌, ◌≢◌, IfSome, IsSome, List, MatchOption, None, OnSome, Option, Some, ap, arith, drop, drop-cons, length, length-drop, slice_index_or, subst, suc, sym, take}
+use Rattle.thread_pool.specs.{All, Books, TakesLast, remove}
+use Rattle.thread_pool.proofs.Words.{get_or-drop, take-append-drop}
 
 pub takes_last : {O : Type 0} (f : O → ℕ) (s place : ℕ) (xs ys : List O) (o : O) → place < length xs → ((d : O) → f (slice_index_or xs place d) ≡ s) → ((k : ℕ) (d : O) → place < k → k < length xs → f (slice_index_or xs k d) ≢ s) → o ≡ slice_index_or xs place o → ys ≡ remove xs place → TakesLast f s o xs ys
 takes_last f s place xs ys o within found last is left = record {

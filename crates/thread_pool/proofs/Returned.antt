@@ -1,9 +1,6 @@
 -- Tickets that came back, one for each that was given.
-use Rattle.std.proofs.Common.{List, [], ◌∷◌, ◌++◌}
-use Rattle.atomic_table.specs.Seated.{TableId}
-use Rattle.share_ledger.specs.Values.{TicketValue}
-use Rattle.thread_pool.specs.Returns.{Returns}
-use Rattle.thread_pool.specs.Teams.{AreReturns}
+use Rattle.std.proofs.Common.{[], ◌++◌, ◌∷◌, List}
+use Rattle.thread_pool.specs.{AreReturns, Returns.Returns, TableId, TicketValue}
 
 -- one more came back
 pub one_returned : (name : TableId) (firsts lasts : List TicketValue) (first last : TicketValue) → AreReturns name firsts lasts → Returns name first last → AreReturns name (firsts ++ first ∷ []) (lasts ++ last ∷ [])

@@ -1,13 +1,10 @@
 -- A pool's state, as contracts see it, and what each call makes of it.
-use Rattle.std.specs.Prelude.{◌≡◌, ◌≢◌, ℕ, ◌+◌, ◌-◌, ◌^◌, ◌<◌, ◌≤◌, ◌⊎◌, ◌&&◌, ◌||◌, not, min, Bool, true, false, if◌then◌else◌, nat_lt, List, [], ◌∷◌, ◌++◌, length, Option, Some, None, IsSome, is_some, option_to_list}
-use Rattle.std.specs.List.{All}
-use Rattle.thread_pool.specs.declared.state.Answer.{Answer}
+use Rattle.std.specs.Prelude.{[], ℕ, ◌&&◌, ◌++◌, ◌+◌, ◌-◌, ◌<◌, ◌^◌, ◌||◌, ◌∷◌, ◌≡◌, ◌≢◌, ◌≤◌, ◌⊎◌, Bool, IsSome, List, None, Option, Some, false, if◌then◌else◌, is_some, length, min, nat_lt, not, option_to_list, true}
+use Rattle.thread_pool.specs.Words.{All, Answer, Next}
+use Rattle.thread_pool.specs.declared.state.{SubmitError.SubmitError, Wish.Wish}
 use Rattle.thread_pool.specs.declared.state.Answer.TheVariants as answer
-use Rattle.thread_pool.specs.declared.state.SubmitError.{SubmitError}
 use Rattle.thread_pool.specs.declared.state.SubmitError.TheVariants as refused
-use Rattle.thread_pool.specs.declared.state.Next.{Next}
 use Rattle.thread_pool.specs.declared.state.Next.TheVariants as next
-use Rattle.thread_pool.specs.declared.state.Wish.{Wish}
 use Rattle.thread_pool.specs.declared.state.Wish.TheVariants as wish
 
 -- how many threads may rest and how many do; the items that nobody has taken, the oldest first, and whether a thread

@@ -1,8 +1,6 @@
 -- What a work gives back for the ticket that it was given.
 use Rattle.std.specs.Prelude.{◌≡◌, true}
-use Rattle.atomic_table.specs.Seated.{TableId}
-use Rattle.share_ledger.specs.Tickets.{finished_in}
-use Rattle.share_ledger.specs.Values.{TicketValue}
+use Rattle.thread_pool.specs.Words.{TableId, TicketValue, finished_in}
 
 -- the last ticket is of the first one's task, which has ended in the realm of this name
 pub record Returns (name : TableId) (first last : TicketValue) : Type 0 where

@@ -1,9 +1,6 @@
 -- The threads that an owner makes, and the tickets of those that it joined.
-use Rattle.std.specs.Prelude.{◌≡◌, ℕ, ◌<◌, ◌≤◌, List, [], ◌∷◌, ◌++◌}
-use Rattle.std.specs.List.{All}
-use Rattle.std.specs.List.Sorted.{IsPermutation}
-use Rattle.atomic_table.specs.Seated.{TableId}
-use Rattle.share_ledger.specs.Values.{TicketValue}
+use Rattle.std.specs.Prelude.{[], ℕ, ◌++◌, ◌<◌, ◌∷◌, ◌≡◌, ◌≤◌, List}
+use Rattle.thread_pool.specs.Words.{All, IsPermutation, TableId, TicketValue}
 use Rattle.thread_pool.specs.Returns.{Returns}
 
 -- the tickets that the works were given whose threads were not joined, and the tickets that came back of others; and

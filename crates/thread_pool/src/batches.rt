@@ -1,11 +1,7 @@
 //! Works that come into a pool's queue together.
 
-ghost use Rattle.std.specs.Prelude.{◌≡◌, ◌+◌, ◌-◌, ◌≤◌, [], ◌∷◌, ◌++◌, IfSome, MatchOption, map, take, vec_capacity, vec_len};
-ghost use Rattle.std.specs.List.{All};
-ghost use Rattle.std.specs.VecDeque.{deque_capacity, deque_len};
-ghost use Rattle.thread_pool.specs.declared.items.WorkItem.{WorkItem};
-ghost use Rattle.thread_pool.specs.declared.executors.PoolHandle.{PoolHandle};
-ghost use Rattle.thread_pool.specs.Batches.{SpawnsFirst};
+ghost use Rattle.std.specs.Prelude.{[], ◌++◌, ◌+◌, ◌-◌, ◌∷◌, ◌≡◌, ◌≤◌, IfSome, MatchOption, map, take, vec_capacity, vec_len};
+ghost use Rattle.thread_pool.specs.{All, SpawnsFirst, declared.executors.PoolHandle.PoolHandle, declared.items.WorkItem.WorkItem, deque_capacity, deque_len};
 
 use crate::executors::{PoolHandle, two_ends};
 use crate::items::WorkItem;

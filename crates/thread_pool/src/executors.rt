@@ -1,4 +1,4 @@
-ghost use Rattle.std.specs.Prelude.{◌≡◌, ◌↔◌, IsTrue, IfSome, MatchResult};
+ghost use Rattle.std.specs.Prelude.{◌↔◌, ◌≡◌, IfSome, IsTrue, MatchResult};
 ghost use Rattle.thread_pool.specs.Returns.{Returns};
 
 use crate::batches::{hand_back, make_items};

@@ -1,5 +1,5 @@
 ghost use Rattle.std.specs.Prelude.{◌≡◌, true};
-ghost use Rattle.share_ledger.specs.Tickets.{finished_in};
+ghost use Rattle.thread_pool.specs.Words.{finished_in};
 ghost use Rattle.thread_pool.specs.Returns.{Returns};
 
 use crate::handoffs::Handoff;

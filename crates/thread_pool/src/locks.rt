@@ -1,4 +1,4 @@
-ghost use Rattle.std.specs.Prelude.{◌≡◌, ◌++◌, List, IfErr, IfSome};
+ghost use Rattle.std.specs.Prelude.{◌++◌, ◌≡◌, IfErr, IfSome, List};
 
 use crate::items::OfScope;
 use crate::state::{Answer, Called, Next, PoolState, SharedHandoff, SubmitError, Wish};

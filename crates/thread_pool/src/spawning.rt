@@ -1,8 +1,5 @@
-ghost use Rattle.std.specs.Prelude.{◌≡◌, ◌≤◌, [], IfSome, MatchResult, vec_capacity};
-ghost use Rattle.std.specs.List.{All};
-ghost use Rattle.std.specs.VecDeque.{deque_len};
-ghost use Rattle.thread_pool.specs.Batches.{SpawnsFirst};
-ghost use Rattle.thread_pool.specs.Returns.{Returns};
+ghost use Rattle.std.specs.Prelude.{[], ◌≡◌, ◌≤◌, IfSome, MatchResult, vec_capacity};
+ghost use Rattle.thread_pool.specs.{All, Returns.Returns, SpawnsFirst, deque_len};
 
 use crate::items::WorkItem;
 use scope_rules::ScopeId;

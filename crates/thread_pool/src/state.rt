@@ -1,8 +1,6 @@
 //! The state of a pool, as data: what each call makes of it.
-ghost use Rattle.std.specs.Prelude.{◌≡◌, ◌≢◌, ◌+◌, ◌-◌, ◌<◌, ◌≤◌, ◌||◌, vec_len, ℕ, [], ◌∷◌, ◌++◌, OnOk, IfSome, MatchOption, MatchResult, drop, is_some, length, option_to_list, slice_index_or, take, true, false};
-ghost use Rattle.std.specs.List.{All};
-ghost use Rattle.std.specs.VecDeque.{deque_len, deque_capacity};
-ghost use Rattle.thread_pool.specs.PoolState.{Comes, Goes, HasRoomFor, IsTold, IsRefused, Takes, TakesFirst, TakesLast, Tells, Wishes, asked, fitting, is_calling, nobody, takers};
+ghost use Rattle.std.specs.Prelude.{[], ℕ, ◌++◌, ◌+◌, ◌-◌, ◌<◌, ◌||◌, ◌∷◌, ◌≡◌, ◌≢◌, ◌≤◌, IfSome, MatchOption, MatchResult, OnOk, drop, false, is_some, length, option_to_list, slice_index_or, take, true, vec_len};
+ghost use Rattle.thread_pool.specs.{All, Comes, Goes, IsRefused, IsTold, PoolState.HasRoomFor, Takes, TakesFirst, TakesLast, Tells, Wishes, asked, deque_capacity, deque_len, fitting, is_calling, nobody, takers};
 
 use crate::handoffs::Handoff;
 use crate::items::OfScope;

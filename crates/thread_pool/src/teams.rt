@@ -1,10 +1,7 @@
 //! The threads that one owner makes, and the tickets of those that it joined.
 
-ghost use Rattle.std.specs.Prelude.{◌≡◌, ◌<◌, ◌≤◌, ◌++◌, ◌∷◌, ℕ, [], OnOk, IfSome, MatchOption, length, map, nat_lt, slice_index_or, vec_len};
-ghost use Rattle.std.specs.List.{All, filter};
-ghost use Rattle.std.specs.List.Sorted.{IsPermutation};
-ghost use Rattle.share_ledger.specs.Values.{TicketValue};
-ghost use Rattle.thread_pool.specs.Teams.{ArePartedAt, HasRoom, HasRoomFor, HasThreadMore, HasThreadsMore, IsSameTeam, Joins};
+ghost use Rattle.std.specs.Prelude.{[], ℕ, ◌++◌, ◌<◌, ◌∷◌, ◌≡◌, ◌≤◌, IfSome, MatchOption, OnOk, length, map, nat_lt, slice_index_or, vec_len};
+ghost use Rattle.thread_pool.specs.{All, ArePartedAt, HasRoom, HasThreadMore, HasThreadsMore, IsPermutation, IsSameTeam, Joins, Teams.HasRoomFor, TicketValue, filter};
 
 use crate::spawning::Spawner;
 use scope_rules::types::values::ScopeId;

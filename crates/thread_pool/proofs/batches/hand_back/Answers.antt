@@ -1,5 +1,5 @@
-use Rattle.std.proofs.Common.{◌≡◌, ◌∷◌, ◌++◌, map, rules}
-use Rattle.thread_pool.specs.declared.items.WorkItem.{WorkItem}
+use Rattle.std.proofs.Common.{◌++◌, ◌∷◌, ◌≡◌, map, rules}
+use Rattle.thread_pool.specs.{declared.items.WorkItem.WorkItem}
 use Rattle.thread_pool.proofs.Batched.{item_back}
 use Rattle.thread_pool.proofs.batches.hand_back.Goals as goal
 

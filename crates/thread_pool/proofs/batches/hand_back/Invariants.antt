@@ -1,7 +1,6 @@
 -- Each turn puts one work back.
-use Rattle.std.proofs.Common.{◌≡◌, ◌+◌, ◌≤◌, ◌++◌, map}
-use Rattle.std.specs.VecDeque.{deque_capacity, deque_len}
-use Rattle.thread_pool.specs.declared.items.WorkItem.{WorkItem}
+use Rattle.std.proofs.Common.{◌++◌, ◌+◌, ◌≡◌, ◌≤◌, map}
+use Rattle.thread_pool.specs.{declared.items.WorkItem.WorkItem, deque_capacity, deque_len}
 use Rattle.thread_pool.proofs.batches.hand_back.Given as goal
 
 abbrev pub invariant-loop-item : goal.invariant-loop-item

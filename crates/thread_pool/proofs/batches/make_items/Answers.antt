@@ -1,7 +1,5 @@
-use Rattle.std.proofs.Common.{rules, arith}
-use Rattle.std.proofs.lemmas.List.Elements.{All-rest}
-use Rattle.thread_pool.specs.declared.items.WorkItem.{WorkItem}
-use Rattle.thread_pool.specs.declared.executors.PoolHandle.{PoolHandle}
+use Rattle.thread_pool.specs.{declared.executors.PoolHandle.PoolHandle, declared.items.WorkItem.WorkItem}
+use Rattle.thread_pool.proofs.Words.{All-rest, arith, rules}
 use Rattle.thread_pool.proofs.Batched.{handle_made, item_made}
 use Rattle.thread_pool.proofs.batches.make_items.Goals as goal
 

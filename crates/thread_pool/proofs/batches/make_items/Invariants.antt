@@ -1,11 +1,6 @@
 -- The items are those of the first works, and so are the handles.
-use Rattle.std.proofs.Common.{◌≡◌, ◌+◌, ◌≤◌, ◌++◌, map, vec_len}
-use Rattle.std.specs.Prelude.{vec_capacity}
-use Rattle.std.specs.List.{All}
-use Rattle.std.specs.VecDeque.{deque_capacity, deque_len}
-use Rattle.share_ledger.specs.Values.{TicketValue}
-use Rattle.thread_pool.specs.declared.items.WorkItem.{WorkItem}
-use Rattle.thread_pool.specs.declared.executors.PoolHandle.{PoolHandle}
+use Rattle.std.proofs.Common.{◌++◌, ◌+◌, ◌≡◌, ◌≤◌, map, vec_capacity, vec_len}
+use Rattle.thread_pool.specs.{All, TicketValue, declared.executors.PoolHandle.PoolHandle, declared.items.WorkItem.WorkItem, deque_capacity, deque_len}
 use Rattle.thread_pool.proofs.batches.make_items.Given as goal
 
 abbrev pub invariant-loop : goal.invariant-loop

@@ -1,5 +1,5 @@
 -- The items from there on are of other scopes.
-use Rattle.std.proofs.Common.{◌≢◌, ℕ, ◌<◌, ◌≤◌, length, slice_index_or}
+use Rattle.std.proofs.Common.{ℕ, ◌<◌, ◌≢◌, ◌≤◌, length, slice_index_or}
 use Rattle.thread_pool.proofs.state.last_of.Given as goal
 
 abbrev pub invariant-loop-place : goal.invariant-loop-place

@@ -1,6 +1,6 @@
 -- The items so far were moved.
-use Rattle.std.proofs.Common.{◌≡◌, ◌+◌, ◌≤◌, ◌++◌, drop, take}
-use Rattle.std.specs.VecDeque.{deque_capacity, deque_len}
+use Rattle.std.proofs.Common.{◌++◌, ◌+◌, ◌≡◌, ◌≤◌, drop, take}
+use Rattle.thread_pool.specs.{deque_capacity, deque_len}
 use Rattle.thread_pool.proofs.state.move_first.Given as goal
 
 abbrev pub invariant-loop : goal.invariant-loop

@@ -1,6 +1,6 @@
 -- The threads from there on are of scopes that were opened earlier.
 use Rattle.std.proofs.Common.{ℕ, ◌<◌, ◌≤◌, length, slice_index_or}
-use Rattle.share_ledger.specs.Values.{TicketValue}
+use Rattle.thread_pool.specs.{TicketValue}
 use Rattle.thread_pool.proofs.teams.last_from.Given as goal
 
 abbrev pub invariant-loop-place : goal.invariant-loop-place

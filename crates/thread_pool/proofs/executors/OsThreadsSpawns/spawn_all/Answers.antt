@@ -1,8 +1,6 @@
 -- Items were made of the first works, and of these the first were taken.
-use Rattle.std.proofs.Common.{◌≡◌, ◌-◌, ◌∙◌, length, take, vec_len, ap, arith}
-use Rattle.std.specs.VecDeque.{deque_len}
-use Rattle.thread_pool.specs.declared.items.WorkItem.{WorkItem}
-use Rattle.thread_pool.specs.declared.executors.PoolHandle.{PoolHandle}
+use Rattle.std.proofs.Common.{◌-◌, ◌∙◌, ◌≡◌, ap, arith, length, take, vec_len}
+use Rattle.thread_pool.specs.{declared.executors.PoolHandle.PoolHandle, declared.items.WorkItem.WorkItem, deque_len}
 use Rattle.thread_pool.proofs.Batched.{spawns_first}
 use Rattle.thread_pool.proofs.executors.OsThreadsSpawns.spawn_all.Goals as goal
 

@@ -1,5 +1,5 @@
-use Rattle.std.proofs.Common.{ap, sym, arith}
-use Rattle.thread_pool.specs.PoolState.{PoolStateValue}
+use Rattle.thread_pool.specs.{PoolStateValue}
+use Rattle.thread_pool.proofs.Words.{ap, arith, sym}
 use Rattle.thread_pool.proofs.Recalled.{recalled}
 use Rattle.thread_pool.proofs.state.PoolState.recall.Goals as goal
 

@@ -1,8 +1,7 @@
 -- Those that were moved are the first.
-use Rattle.std.proofs.Common.{rules, arith, ap, sym, take, length, is_some, vec_len, ◌++◌, ◌||◌, ◌≡◌, ◌≤◌, ◌∙◌}
-use Rattle.std.proofs.lemmas.List.{length-take-le, take-append-drop}
-use Rattle.std.specs.VecDeque.{deque_len}
-use Rattle.thread_pool.specs.PoolState.{Books, PoolStateValue, books, fitting, is_calling}
+use Rattle.std.proofs.Common.{◌++◌, ◌||◌, ◌∙◌, ◌≡◌, ◌≤◌, ap, arith, is_some, length, rules, sym, take, vec_len}
+use Rattle.thread_pool.specs.{Books, PoolStateValue, books, deque_len, fitting, is_calling}
+use Rattle.thread_pool.proofs.Words.{length-take-le, take-append-drop}
 use Rattle.thread_pool.proofs.state.PoolState.take_all.Goals as goal
 
 pub returns : goal.returns

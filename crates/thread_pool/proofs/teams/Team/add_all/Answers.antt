@@ -1,6 +1,6 @@
-use Rattle.std.proofs.Common.{◌≡◌, [], ◌∷◌, ◌++◌, ◌∙◌, List, append_assoc, map, ap, sym, arith}
-use Rattle.std.proofs.lemmas.List.Elements.{All-head, All-rest, All-same}
-use Rattle.share_ledger.specs.Values.{TicketValue}
+use Rattle.std.proofs.Common.{[], ◌++◌, ◌∙◌, ◌∷◌, ◌≡◌, List, ap, append_assoc, arith, map, sym}
+use Rattle.thread_pool.specs.{TicketValue}
+use Rattle.thread_pool.proofs.Words.{All-head, All-rest, All-same}
 use Rattle.thread_pool.proofs.teams.Team.add_all.Goals as goal
 
 pub invariant_of-push_reserved : goal.invariant_of-push_reserved

@@ -1,9 +1,6 @@
 -- Each turn adds one of the threads, and there is room for those that are left.
-use Rattle.std.proofs.Common.{◌≡◌, ◌+◌, ◌≤◌, ◌++◌, map, vec_len}
-use Rattle.std.specs.Prelude.{vec_capacity}
-use Rattle.std.specs.List.{All}
-use Rattle.std.specs.VecDeque.{deque_len}
-use Rattle.share_ledger.specs.Values.{TicketValue}
+use Rattle.std.proofs.Common.{◌++◌, ◌+◌, ◌≡◌, ◌≤◌, map, vec_capacity, vec_len}
+use Rattle.thread_pool.specs.{All, TicketValue, deque_len}
 use Rattle.thread_pool.proofs.teams.Team.add_all.Given as goal
 
 abbrev pub invariant-loop-handle : goal.invariant-loop-handle

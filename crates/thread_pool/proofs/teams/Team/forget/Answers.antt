@@ -1,8 +1,6 @@
-use Rattle.std.proofs.Common.{rules, nat_lt, subst, ◌≡◌}
-use Rattle.std.specs.List.{filter}
-use Rattle.std.proofs.lemmas.Fn.{filter_same}
-use Rattle.share_ledger.specs.Values.{TicketValue}
-use Rattle.thread_pool.specs.Teams.{TeamValue}
+use Rattle.std.proofs.Common.{◌≡◌, nat_lt, rules, subst}
+use Rattle.thread_pool.specs.{TeamValue, TicketValue, filter}
+use Rattle.thread_pool.proofs.Words.{filter_same}
 use Rattle.thread_pool.proofs.teams.Team.forget.Goals as goal
 
 pub returns-clause-returned : goal.returns-clause-returned

@@ -1,14 +1,7 @@
-use Rattle.std.proofs.Common.{◌<◌, ◌≤◌, ◌∙◌, [], ◌∷◌, ◌++◌, length, slice_index_or, ap, sym, subst, arith, rules}
-use Rattle.std.specs.List.{All}
-use Rattle.std.specs.List.Sorted.{IsPermutation}
-use Rattle.std.proofs.lemmas.List.{append_assoc, append-nil}
-use Rattle.std.proofs.lemmas.List.Elements.{All-push}
-use Rattle.std.proofs.lemmas.List.Sorted.{IsPermutation-refl, IsPermutation-swap_remove, IsPermutation-trans}
-use Rattle.share_ledger.specs.Values.{TicketValue}
-use Rattle.thread_pool.specs.Returns.{Returns}
-use Rattle.thread_pool.specs.Teams.{TeamValue}
-use Rattle.thread_pool.proofs.Moved.{earlier_stay, one_moved}
-use Rattle.thread_pool.proofs.Returned.{one_returned}
+use Rattle.std.proofs.Common.{[], ◌++◌, ◌<◌, ◌∙◌, ◌∷◌, ◌≤◌, ap, arith, length, rules, slice_index_or, subst, sym}
+use Rattle.thread_pool.specs.{All, IsPermutation, Returns.Returns, TeamValue, TicketValue}
+use Rattle.thread_pool.proofs.Words.{All-push, IsPermutation-refl, IsPermutation-swap_remove, IsPermutation-trans, append-nil, append_assoc}
+use Rattle.thread_pool.proofs.{Moved.earlier_stay, Moved.one_moved, Returned.one_returned}
 use Rattle.thread_pool.proofs.teams.Team.join_from.Goals as goal
 
 pub loop-place-init : goal.loop-place-init

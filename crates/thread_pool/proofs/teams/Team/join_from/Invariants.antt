@@ -1,10 +1,6 @@
 -- Each turn makes a ticket of a thread, its own; those from `below` on are of scopes that were opened earlier.
-use Rattle.std.proofs.Common.{◌≡◌, ℕ, ◌+◌, ◌<◌, ◌≤◌, ◌++◌, List, length, slice_index_or, vec_len}
-use Rattle.std.specs.Prelude.{vec_capacity}
-use Rattle.std.specs.List.{All}
-use Rattle.std.specs.List.Sorted.{IsPermutation}
-use Rattle.share_ledger.specs.Values.{TicketValue}
-use Rattle.thread_pool.specs.Teams.{AreReturns}
+use Rattle.std.proofs.Common.{ℕ, ◌++◌, ◌+◌, ◌<◌, ◌≡◌, ◌≤◌, List, length, slice_index_or, vec_capacity, vec_len}
+use Rattle.thread_pool.specs.{All, AreReturns, IsPermutation, TicketValue}
 use Rattle.thread_pool.proofs.teams.Team.join_from.Given as goal
 
 abbrev pub invariant-loop-place : goal.invariant-loop-place

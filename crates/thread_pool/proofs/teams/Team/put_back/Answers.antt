@@ -1,9 +1,6 @@
-use Rattle.std.proofs.Common.{◌≡◌, [], ◌∷◌, ◌++◌, ◌∙◌, ap, sym, subst, rules, arith}
-use Rattle.std.specs.List.Sorted.{IsPermutation}
-use Rattle.std.proofs.lemmas.List.{append-nil}
-use Rattle.std.proofs.lemmas.List.Elements.{All-pop}
-use Rattle.std.proofs.lemmas.List.Sorted.{IsPermutation-to_front, IsPermutation-trans}
-use Rattle.share_ledger.specs.Values.{TicketValue}
+use Rattle.std.proofs.Common.{[], ◌++◌, ◌∙◌, ◌∷◌, ◌≡◌, ap, arith, rules, subst, sym}
+use Rattle.thread_pool.specs.{IsPermutation, TicketValue}
+use Rattle.thread_pool.proofs.Words.{All-pop, IsPermutation-to_front, IsPermutation-trans, append-nil}
 use Rattle.thread_pool.proofs.Moved.{one_moved}
 use Rattle.thread_pool.proofs.teams.Team.put_back.Goals as goal
 

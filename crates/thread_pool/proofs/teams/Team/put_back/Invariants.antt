@@ -1,9 +1,6 @@
 -- There is room for what is left; each turn puts one ticket back.
-use Rattle.std.proofs.Common.{◌≡◌, ◌+◌, ◌≤◌, ◌++◌, vec_len}
-use Rattle.std.specs.Prelude.{vec_capacity}
-use Rattle.std.specs.List.{All}
-use Rattle.std.specs.List.Sorted.{IsPermutation}
-use Rattle.share_ledger.specs.Values.{TicketValue}
+use Rattle.std.proofs.Common.{◌++◌, ◌+◌, ◌≡◌, ◌≤◌, vec_capacity, vec_len}
+use Rattle.thread_pool.specs.{All, IsPermutation, TicketValue}
 use Rattle.thread_pool.proofs.teams.Team.put_back.Given as goal
 
 abbrev pub invariant-loop-ticket : goal.invariant-loop-ticket

@@ -1,10 +1,6 @@
-use Rattle.std.proofs.Common.{◌≡◌, ◌≤◌, ◌<◌, ◌∙◌, ◌∷◌, ◌++◌, length, slice_index_or, arith, subst, sym}
-use Rattle.std.specs.List.{All}
-use Rattle.std.specs.List.Sorted.{IsPermutation}
-use Rattle.std.proofs.lemmas.List.Elements.{All-push}
-use Rattle.std.proofs.lemmas.List.Sorted.{IsPermutation-swap_remove, IsPermutation-trans}
-use Rattle.share_ledger.specs.Values.{TicketValue}
-use Rattle.thread_pool.specs.Teams.{ArePartedAt, TeamValue}
+use Rattle.std.proofs.Common.{◌++◌, ◌<◌, ◌∙◌, ◌∷◌, ◌≡◌, ◌≤◌, arith, length, slice_index_or, subst, sym}
+use Rattle.thread_pool.specs.{All, ArePartedAt, IsPermutation, TeamValue, TicketValue}
+use Rattle.thread_pool.proofs.Words.{All-push, IsPermutation-swap_remove, IsPermutation-trans}
 use Rattle.thread_pool.proofs.Moved.{earlier_stay, one_moved}
 use Rattle.thread_pool.proofs.teams.Team.take_from.Goals as goal
 

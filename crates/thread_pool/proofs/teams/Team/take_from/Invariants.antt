@@ -1,10 +1,7 @@
 -- What was taken is of the realm, and each ticket that was leaves its room; each turn takes one. Those from
 -- `below` on are of scopes that were opened earlier.
-use Rattle.std.proofs.Common.{◌≡◌, ℕ, ◌+◌, ◌<◌, ◌≤◌, ◌++◌, slice_index_or, vec_len}
-use Rattle.std.specs.Prelude.{vec_capacity}
-use Rattle.std.specs.List.{All}
-use Rattle.std.specs.List.Sorted.{IsPermutation}
-use Rattle.share_ledger.specs.Values.{TicketValue}
+use Rattle.std.proofs.Common.{ℕ, ◌++◌, ◌+◌, ◌<◌, ◌≡◌, ◌≤◌, slice_index_or, vec_capacity, vec_len}
+use Rattle.thread_pool.specs.{All, IsPermutation, TicketValue}
 use Rattle.thread_pool.proofs.teams.Team.take_from.Given as goal
 
 abbrev pub invariant-loop-place : goal.invariant-loop-place
