@@ -1,6 +1,6 @@
 -- How a batch of jobs is forked, and gets its threads one after the other.
 use Rattle.std.proofs.Common.{◌≡◌, ℕ, ◌≤◌, List, [], ◌∷◌, ◌++◌, reverse, length, Option, None, Some, Result, Ok, Err, refl, sym, ap, ◌∙◌, subst, arith, inl, inr, suc}
-use Rattle.std.proofs.lemmas.List.{append-nil, append_assoc, length-append, nil_from_length, reverse-append}
+use Rattle.std.proofs.lemmas.List.{append-nil, append_assoc, length-append, nil_from_length, reverse-append, reverse-reverse}
 use Rattle.scope_rules.specs.declared.types.answers.ForkReply.{ForkReply}
 use Rattle.scope_rules.specs.declared.types.refusals.Refusal.{Refusal}
 use Rattle.scope_rules.specs.declared.types.refusals.Refusal.TheVariants.{Memory}
@@ -14,7 +14,7 @@ use Rattle.realm_core.specs.Calls.{SeesMore}
 use Rattle.realm_lock.specs.Batches.{forking, ForksEach, ForksNext}
 use Rattle.thread_pool.specs.Teams.{TeamValue, IsSameTeam}
 use Rattle.job_runner.specs.declared.forking.ForkRefusal.{ForkRefusal}
-use Rattle.job_runner.specs.Batches.{labels_of, ForksLabels, IsReadyOne, AreReady, StartsOne, StartsEach, StartsFirst, ForksJobs}
+use Rattle.job_runner.specs.Batches.{labels_of, ForksLabels, IsReadyOne, AreReady, StartsOne, StartsEach, StartsFirst, ForksJobs, IsStarting}
 
 -- ---- the tickets that a batch of forks gives
 
@@ -71,6 +71,17 @@ reverse_popped xs ys x is = ap reverse is ∙ reverse-append ys (x ∷ [])
 -- those that are left, once the first is taken, are of the jobs that are left then
 pub ready_rest : {J : Type 0} (name : TableId) (s : ℕ) (jobs rest : List (NamedValue J)) (forked others : List Forked) (job : NamedValue J) (f : Forked) → AreReady name s jobs forked → jobs ≡ job ∷ rest → forked ≡ f ∷ others → AreReady name s rest others
 ready_rest {J} name s jobs rest forked others job f ready next gives = (subst (λ fs. AreReady {J = J} name s (job ∷ rest) fs) gives (subst (λ js. AreReady {J = J} name s js forked) next ready)).1
+
+-- the first may be given to the work of the first job
+pub ready_first : {J : Type 0} (name : TableId) (s : ℕ) (jobs rest : List (NamedValue J)) (forked others : List Forked) (job : NamedValue J) (f : Forked) → AreReady name s jobs forked → jobs ≡ job ∷ rest → forked ≡ f ∷ others → IsReadyOne name s job f
+ready_first {J} name s jobs rest forked others job f ready next gives = (subst (λ fs. AreReady {J = J} name s (job ∷ rest) fs) gives (subst (λ js. AreReady {J = J} name s js forked) next ready)).0
+
+-- those behind as many tickets as jobs are of the jobs behind these
+ready_behind : {J : Type 0} (name : TableId) (s : ℕ) (first jobs : List (NamedValue J)) (given forked : List Forked) → length first ≡ length given → AreReady name s (first ++ jobs) (given ++ forked) → AreReady name s jobs forked
+ready_behind name s [] jobs [] forked same ready = ready
+ready_behind name s [] jobs (g ∷ given) forked same ready = absurd (omega (arith, same))
+ready_behind name s (j ∷ first) jobs [] forked same ready = absurd (omega (arith, same))
+ready_behind name s (j ∷ first) jobs (g ∷ given) forked same ready = let less : length first ≡ length given = omega (arith, same) in ready_behind name s first jobs given forked less ready.1
 
 -- ---- how they get their threads
 
@@ -150,15 +161,6 @@ module _ {C J : Type 0} where
 
   -- ---- the loop that starts them
 
-  -- so it went with the first jobs, and these are left
-  pub record IsStarting (old now : OwnerValue) (was is : TeamValue) (jobs left : List (NamedValue J)) (forked later : List Forked) (answers : List (Result ForkReply (ForkRefusal C J))) : Type 0 where
-    pub first : List (NamedValue J)
-    pub given : List Forked
-    pub are : jobs ≡ first ++ left
-    pub gave : forked ≡ given ++ later
-    pub sees : SeesMore old now
-    pub each : StartsEach old now was is first given answers
-
   pub starting_on : (old now new : OwnerValue) (was team is : TeamValue) (jobs left rest : List (NamedValue J)) (forked later others : List Forked) (answers : List (Result ForkReply (ForkRefusal C J))) (job : NamedValue J) (f : Forked) (answer : Result ForkReply (ForkRefusal C J)) → IsStarting old now was team jobs left forked later answers → left ≡ job ∷ rest → later ≡ f ∷ others → SeesMore now new → StartsOne now new team is job f answer → IsStarting old new was is jobs rest forked others (answers ++ answer ∷ [])
   starting_on old now new was team is jobs left rest forked later others answers job f answer so_far next gives sees one = record {
     first = so_far.first ++ job ∷ [];
@@ -168,3 +170,19 @@ module _ {C J : Type 0} where
     sees = sees ∙ ap (λ (t : OwnerValue). record t { seen = new.seen }) so_far.sees;
     each = starts_more old now new was team is so_far.first so_far.given answers job f answer so_far.each one;
   }
+
+  -- the same of lists that are turned twice
+  pub starting_turned : (old now : OwnerValue) (was is : TeamValue) (jobs turned left : List (NamedValue J)) (forked turning later : List Forked) (answers : List (Result ForkReply (ForkRefusal C J))) → turned ≡ reverse jobs → turning ≡ reverse forked → IsStarting old now was is (reverse turned) left (reverse turning) later answers → IsStarting old now was is jobs left forked later answers
+  starting_turned old now was is jobs turned left forked turning later answers js fs so_far = record {
+    first = so_far.first;
+    given = so_far.given;
+    are = sym (ap (λ xs. reverse xs) js ∙ reverse-reverse jobs) ∙ so_far.are;
+    gave = sym (ap (λ xs. reverse xs) fs ∙ reverse-reverse forked) ∙ so_far.gave;
+    sees = so_far.sees;
+    each = so_far.each;
+  }
+
+  -- the tickets that are left then are of the jobs that are left
+  pub starting_ready : (name : TableId) (s : ℕ) (old now : OwnerValue) (was is : TeamValue) (jobs left : List (NamedValue J)) (forked later : List Forked) (answers : List (Result ForkReply (ForkRefusal C J))) → IsStarting old now was is jobs left forked later answers → AreReady name s jobs forked → AreReady name s left later
+  starting_ready name s old now was is jobs left forked later answers so_far ready =
+      ready_behind name s so_far.first left so_far.given later (starts_length old now was is so_far.first so_far.given answers so_far.each) (subst (λ fs. AreReady {J = J} name s (so_far.first ++ left) fs) so_far.gave (subst (λ js. AreReady {J = J} name s js forked) so_far.are ready))

@@ -1,4 +1,5 @@
 pub mod Forked
+pub mod Paired
 pub mod Seated
 pub mod Reported
 pub mod Ended

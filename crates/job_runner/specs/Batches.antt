@@ -1,5 +1,6 @@
 -- What a batch of forks of jobs does, and answers.
 use Rattle.std.specs.Prelude.{◌≡◌, ℕ, List, [], ◌∷◌, ◌++◌, map, Option, None, Some, Result, Ok, Err, IfErr}
+use Rattle.std.specs.List.{All}
 use Rattle.scope_rules.specs.declared.types.answers.ForkReply.{ForkReply}
 use Rattle.scope_rules.specs.declared.types.answers.ForkReply.TheVariants as reply
 use Rattle.scope_rules.specs.declared.types.refusals.Refusal.{Refusal}
@@ -12,7 +13,10 @@ use Rattle.realm_core.specs.declared.forking.Forked.TheVariants.{Thread, Never}
 use Rattle.realm_core.specs.Calls.{SeesMore}
 use Rattle.realm_lock.specs.Batches.{ForksAll, ForksUpTo}
 use Rattle.thread_pool.specs.Teams.{TeamValue, HasThreadMore, IsSameTeam}
+use Rattle.cancel_marks.specs.Seats.{Seen}
+use Rattle.job_runner.specs.declared.contexts.OpenScope.{OpenScope}
 use Rattle.job_runner.specs.declared.forking.ForkRefusal.{ForkRefusal}
+use Rattle.job_runner.specs.Marks.{IsMarkOf}
 use Rattle.job_runner.specs.Forks.{IsReadyFor, SpawnsJob, job_of, why_alone}
 
 -- the label of each job
@@ -57,6 +61,28 @@ pub record StartsFirst {C J : Type 0} (old new : OwnerValue) (was is : TeamValue
   pub first : List (NamedValue J)
   pub are : jobs ≡ first ++ left
   pub each : StartsEach old new was is first forked answers
+
+-- so it went with the first jobs, whose forks these were, by the token and the team; the others are left, with their forks
+pub record IsStarting {C J : Type 0} (old now : OwnerValue) (was is : TeamValue) (jobs left : List (NamedValue J)) (forked later : List Forked) (answers : List (Result ForkReply (ForkRefusal C J))) : Type 0 where
+  pub first : List (NamedValue J)
+  pub given : List Forked
+  pub are : jobs ≡ first ++ left
+  pub gave : forked ≡ given ++ later
+  pub sees : SeesMore old now
+  pub each : StartsEach old now was is first given answers
+
+-- the works, each with its ticket, are of the first jobs and of the threads that were forked for them; the others are
+-- left. Each work may be given its ticket, which is of scope s, and has the mark of that scope
+pub record ArePaired {J W : Type 0} (name : TableId) (s : ℕ) (opened : List OpenScope) (job : W → NamedValue J) (around : W → Option Seen) (works : List (TicketValue × W)) (jobs left : List (NamedValue J)) (forked later : List Forked) : Type 0 where
+  pub jobs_are : jobs ≡ map (λ w. job w.1) works ++ left
+  pub forked_are : forked ≡ map (λ w. Thread w.0) works ++ later
+  pub ready : All (λ w. IsReadyFor name (job w.1).label w.0) works
+  pub scopes : All (λ w. w.0.scope ≡ s) works
+  pub marked : All (λ w. IsMarkOf s opened (around w.1)) works
+
+-- the answers for as many threads
+abbrev pub started : {C J W : Type 0} → List (TicketValue × W) → List (Result ForkReply (ForkRefusal C J))
+started works = map (λ w. Ok (reply.Thread w.0.task)) works
 
 -- what a batch of forks of jobs did: first all the forks, up to the first that was refused; then each job whose task
 -- was forked got its thread, or not

@@ -110,7 +110,7 @@ impl<C: Catalog, S: Spawner<N>, N: RealmName> TaskCtx<C, S, N> {
     }
 
     /// Starts a thread for each of the first jobs, as many as were forked, and gives what became of them, and
-    /// the other jobs.
+    /// the other jobs. The first are started together; those that the spawner didn't take so, one by one.
     fn start_all<J: Answers + Drop, R: Wait>(
         &mut self,
         rt: &R,
@@ -135,6 +135,7 @@ impl<C: Catalog, S: Spawner<N>, N: RealmName> TaskCtx<C, S, N> {
     {
         jobs.reverse();
         forked.reverse();
+        self.start_together(rt, scope, &mut jobs, &mut rooms, &mut forked, &mut answers);
         while let Some(next) = forked.pop() {
             let Some(job) = jobs.pop() else {
                 unreachable!()

@@ -20,6 +20,7 @@ mod readers;
 mod reporting;
 mod running;
 mod timed;
+mod together;
 mod works;
 
 pub use batches::ForkedJobs;

@@ -2,8 +2,25 @@ use Rattle.std.proofs.Common.{◌≡◌, ◌∷◌, Option, Some, reverse, ap, s
 use Rattle.std.proofs.lemmas.List.Elements.{All-pop}
 use Rattle.cancel_marks.specs.Seats.{Seen}
 use Rattle.job_runner.specs.Marks.{IsMarkOf}
-use Rattle.job_runner.proofs.Batched.{ready_rest, reverse_popped, starting_on}
+use Rattle.job_runner.proofs.Batched.{ready_rest, reverse_popped, starting_on, starting_ready, starting_turned}
 use Rattle.job_runner.proofs.contexts.TaskCtx.start_all.Goals as goal
+
+pub loop-next-init : goal.loop-next-init
+loop-next-init g c =
+    let new = c.start_together.new.self in
+    let jobs = c.args.jobs.items in
+    let left = reverse c.start_together.new.jobs.items in
+    let forked = c.args.forked.items in
+    let later = reverse c.start_together.new.forked.items in
+    let answers = c.start_together.new.answers.items in
+    let starting = starting_turned c.args.self.now.token new.token c.args.self.now.team new.team jobs c.reverse.new.self.items left forked c.reverse-2.new.self.items later answers c.reverse.ensures.items c.reverse-2.ensures.items c.start_together.ensures.starting in (
+      starting,
+      starting_ready g.N.RealmName.table c.args.scope c.args.self.now.token new.token c.args.self.now.team new.team jobs left forked later answers starting c.requires.ready,
+      c.start_together.ensures.marked,
+      c.start_together.ensures.rooms,
+      c.start_together.ensures.room,
+      search rules,
+    )
 
 pub start_one-answer-requires-clause-marked : goal.start_one-answer-requires-clause-marked
 start_one-answer-requires-clause-marked g c =

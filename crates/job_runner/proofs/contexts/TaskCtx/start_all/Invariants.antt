@@ -4,8 +4,7 @@ use Rattle.std.specs.Prelude.{vec_capacity}
 use Rattle.std.specs.List.{All}
 use Rattle.cancel_marks.specs.Seats.{Seen}
 use Rattle.job_runner.specs.Marks.{IsMarkOf}
-use Rattle.job_runner.specs.Batches.{AreReady}
-use Rattle.job_runner.proofs.Batched.{IsStarting}
+use Rattle.job_runner.specs.Batches.{AreReady, IsStarting}
 use Rattle.job_runner.proofs.contexts.TaskCtx.start_all.Given as goal
 
 abbrev pub invariant-loop-next : goal.invariant-loop-next
