@@ -1,20 +1,9 @@
 -- How a batch of jobs is forked, and gets its threads one after the other.
-use Rattle.std.proofs.Common.{◌≡◌, ℕ, ◌≤◌, List, [], ◌∷◌, ◌++◌, reverse, length, Option, None, Some, Result, Ok, Err, refl, sym, ap, ◌∙◌, subst, arith, inl, inr, suc}
-use Rattle.std.proofs.lemmas.List.{append-nil, append_assoc, length-append, nil_from_length, reverse-append, reverse-reverse}
-use Rattle.scope_rules.specs.declared.types.answers.ForkReply.{ForkReply}
-use Rattle.scope_rules.specs.declared.types.refusals.Refusal.{Refusal}
-use Rattle.scope_rules.specs.declared.types.refusals.Refusal.TheVariants.{Memory}
-use Rattle.scope_rules.specs.Ends.{LabelValue}
-use Rattle.atomic_table.specs.Seated.{TableId}
-use Rattle.share_ledger.specs.Named.{NamedValue}
-use Rattle.share_ledger.specs.Values.{OwnerValue, TicketValue}
-use Rattle.realm_core.specs.declared.forking.Forked.{Forked}
-use Rattle.realm_core.specs.declared.forking.Forked.TheVariants.{Thread, Never}
-use Rattle.realm_core.specs.Calls.{SeesMore}
-use Rattle.realm_lock.specs.Batches.{forking, ForksEach, ForksNext}
-use Rattle.thread_pool.specs.Teams.{TeamValue, IsSameTeam}
-use Rattle.job_runner.specs.declared.forking.ForkRefusal.{ForkRefusal}
-use Rattle.job_runner.specs.Batches.{labels_of, ForksLabels, IsReadyOne, AreReady, StartsOne, StartsEach, StartsFirst, ForksJobs, IsStarting}
+use Rattle.std.proofs.Common.{[], ℕ, ◌++◌, ◌∙◌, ◌∷◌, ◌≡◌, ◌≤◌, Err, List, None, Ok, Option, Result, Some, ap, arith, inl, inr, length, refl, reverse, subst, suc, sym}
+use Rattle.realm_core.specs.declared.forking.Forked.TheVariants.{Never, Thread}
+use Rattle.job_runner.specs.{AreReady, ForkRefusal, ForkReply, Forked, ForksEach, ForksJobs, ForksLabels, ForksNext, IsReadyOne, IsSameTeam, IsStarting, LabelValue, Memory, NamedValue, OwnerValue, Refusal, SeesMore, StartsEach}
+use Rattle.job_runner.specs.{StartsFirst, StartsOne, TableId, TeamValue, TicketValue, forking, labels_of}
+use Rattle.job_runner.proofs.Words.{append-nil, append_assoc, length-append, nil_from_length, reverse-append, reverse-reverse}
 
 -- ---- the tickets that a batch of forks gives
 

@@ -1,26 +1,8 @@
 -- What the end of a context leaves.
-use Rattle.std.proofs.Common.{◌≡◌, ℕ, Bool, true, false, Option, None, Some, is_some, Err, List, [], ◌∷◌, refl, sym, ap, ◌∙◌, subst, inl, inr}
-use Rattle.scope_rules.specs.declared.types.capacity.Limits.{Limits}
-use Rattle.scope_rules.specs.declared.types.answers.Stage.TheVariants.{Running}
-use Rattle.scope_rules.specs.declared.types.events.Event.TheVariants.{Finish}
-use Rattle.scope_rules.specs.declared.types.refusals.Refusal.{Refusal}
-use Rattle.scope_rules.specs.Ends.{EndValue}
-use Rattle.scope_rules.specs.History.{History}
-use Rattle.scope_rules.specs.Tasks.{stage}
-use Rattle.scope_rules.specs.Table.{check_of}
-use Rattle.scope_rules.specs.Scopes.{innermost}
-use Rattle.scope_rules.proofs.ClosingScopes.{nothing_open, nothing_runs}
-use Rattle.scope_rules.proofs.PassedRows.{finish_passed}
-use Rattle.share_ledger.specs.declared.steps.RealmStep.{RealmStep}
-use Rattle.share_ledger.specs.declared.steps.RealmStep.TheVariants.{Happened}
-use Rattle.share_ledger.specs.Steps.{history_of, IsLegal}
-use Rattle.share_ledger.proofs.Histories.{beginning_legal, legal_history}
-use Rattle.share_ledger.proofs.Waits.{started_runs}
-use Rattle.share_ledger.specs.Values.{OwnerValue, TicketValue}
-use Rattle.realm_core.specs.Calls.{Added, Looked, history_seen}
-use Rattle.realm_core.specs.Tasks.{Finishes}
-use Rattle.realm_core.proofs.Unopened.{innermost_still, may_finish}
-use Rattle.job_runner.specs.Endings.{NothingOpen, LeavesNothing, Ended, EndsAsMay, has_open}
+use Rattle.std.proofs.Common.{[], ℕ, ◌∙◌, ◌∷◌, ◌≡◌, Bool, Err, List, None, Option, Some, ap, false, inl, inr, is_some, refl, subst, sym, true}
+use Rattle.job_runner.specs.{Added, EndValue, Ended, EndsAsMay, Finish, Finishes, Happened, History, IsLegal, LeavesNothing, Limits, Looked, NothingOpen, OwnerValue, RealmStep, Refusal, Running, TicketValue, check_of, has_open}
+use Rattle.job_runner.specs.{history_of, history_seen, innermost, stage}
+use Rattle.job_runner.proofs.Words.{beginning_legal, finish_passed, innermost_still, legal_history, may_finish, nothing_open, nothing_runs, started_runs}
 
 -- if main has no open scope, all is over
 pub leaves_nothing : (token : OwnerValue) → NothingOpen token → LeavesNothing token

@@ -1,16 +1,8 @@
 -- What the fork of a job comes to, once a thread was asked for.
-use Rattle.std.proofs.Common.{◌≡◌, ℕ, Result, Ok, Err, ap, ◌∙◌}
-use Rattle.std.specs.Prelude.{IfOk, [], ◌∷◌, ◌++◌}
-use Rattle.scope_rules.specs.declared.types.answers.ForkReply.{ForkReply}
-use Rattle.scope_rules.specs.declared.types.answers.ForkReply.TheVariants.{Thread, Never}
-use Rattle.scope_rules.specs.declared.types.events.Event.TheVariants.{Fork}
-use Rattle.scope_rules.specs.Ends.{LabelValue}
-use Rattle.share_ledger.specs.declared.steps.RealmStep.TheVariants.{Happened}
-use Rattle.share_ledger.specs.Values.{OwnerValue, TicketValue}
-use Rattle.realm_core.specs.Calls.{Accepted, SeesMore}
-use Rattle.thread_pool.specs.Teams.{TeamValue, HasThreadMore, IsSameTeam}
-use Rattle.job_runner.specs.declared.forking.ForkRefusal.{ForkRefusal}
-use Rattle.job_runner.specs.Forks.{ForkWhy, Before, Rejected, SpawnsJob, ForksJob, KeepsThread, reply_there, ticket_of, why_alone}
+use Rattle.std.proofs.Common.{[], ℕ, ◌++◌, ◌∙◌, ◌∷◌, ◌≡◌, Err, IfOk, Ok, Result, ap}
+use Rattle.scope_rules.specs.declared.types.answers.ForkReply.TheVariants.{Never, Thread}
+use Rattle.job_runner.specs.{Accepted, Before, Fork, ForkRefusal, ForkReply, ForkWhy, ForksJob, Happened, HasThreadMore, IsSameTeam, KeepsThread, LabelValue, OwnerValue, Rejected, SeesMore, SpawnsJob, TeamValue, TicketValue}
+use Rattle.job_runner.specs.{reply_there, ticket_of, why_alone}
 
 -- the fork is recorded; the thread that was asked for runs the job, or the task is rejected
 pub forked_job : (old mid new : OwnerValue) (scope : ℕ) (label : LabelValue) (ticket : TicketValue) (answer : Result ForkReply ForkWhy) → SeesMore old mid → Accepted old mid (Happened (Fork old.actor scope label)) (reply_there scope) (Thread ticket.task) → SpawnsJob mid new ticket answer → ForksJob old new scope label answer

@@ -4,3 +4,4 @@ pub mod Seated
 pub mod Reported
 pub mod Ended
 pub mod Batched
+mod Words

@@ -1,24 +1,11 @@
 -- Works that are made of the first jobs of a batch, and how they are started together.
-use Rattle.std.proofs.Common.{◌≡◌, ℕ, ◌+◌, List, [], ◌∷◌, ◌++◌, length, map, take, drop, Option, Result, Ok, refl, sym, ap, ◌∙◌, subst, arith}
-use Rattle.std.specs.List.{All}
-use Rattle.std.proofs.lemmas.List.{append-nil, append_assoc, length-append, length-map, map-append, map_push, take-map}
-use Rattle.std.proofs.lemmas.List.Elements.{All-drop, All-map, All-push, All-same, All-take}
-use Rattle.std.proofs.Math.Seq.{drop-append_seam, take-append_seam}
-use Rattle.scope_rules.specs.declared.types.answers.ForkReply.{ForkReply}
-use Rattle.scope_rules.specs.declared.types.answers.ForkReply.TheVariants as reply
-use Rattle.atomic_table.specs.Seated.{TableId}
-use Rattle.cancel_marks.specs.Seats.{Seen}
-use Rattle.share_ledger.specs.Named.{NamedValue}
-use Rattle.share_ledger.specs.Values.{OwnerValue, TicketValue}
-use Rattle.realm_core.specs.declared.forking.Forked.{Forked}
+use Rattle.std.proofs.Common.{[], ℕ, ◌++◌, ◌+◌, ◌∙◌, ◌∷◌, ◌≡◌, List, Ok, Option, Result, ap, arith, drop, length, map, refl, subst, sym, take}
 use Rattle.realm_core.specs.declared.forking.Forked.TheVariants.{Thread}
-use Rattle.thread_pool.specs.Teams.{TeamValue, HasThreadsMore, IsSameTeam}
-use Rattle.job_runner.specs.declared.contexts.OpenScope.{OpenScope}
-use Rattle.job_runner.specs.declared.forking.ForkRefusal.{ForkRefusal}
-use Rattle.job_runner.specs.Marks.{IsMarkOf}
-use Rattle.job_runner.specs.Forks.{IsReadyFor}
-use Rattle.job_runner.specs.Batches.{ArePaired, IsReadyOne, IsStarting, StartsEach, started}
+use Rattle.job_runner.specs.{All, ArePaired, ForkRefusal, ForkReply, Forked, HasThreadsMore, IsMarkOf, IsReadyFor, IsReadyOne, IsSameTeam, IsStarting, NamedValue, OpenScope, OwnerValue, Seen, StartsEach, TableId, TeamValue}
+use Rattle.job_runner.specs.{TicketValue, started}
+use Rattle.job_runner.proofs.Words.{All-drop, All-map, All-push, All-same, All-take, append-nil, append_assoc, drop-append_seam, length-append, length-map, map-append, map_push, take-append_seam, take-map}
 use Rattle.job_runner.proofs.Batched.{each_from}
+use Rattle.scope_rules.specs.declared.types.answers.ForkReply.TheVariants as reply
 
 -- one element crosses the seam
 crossed : {I X : Type 0} (f : I → X) (less more : List I) (i : I) (rest : List X) → more ≡ less ++ i ∷ [] → map f less ++ f i ∷ rest ≡ map f more ++ rest

@@ -1,12 +1,6 @@
 -- What a close with a report comes to in a context, once it has begun.
-use Rattle.std.proofs.Common.{◌≡◌, ℕ, List, Result, Ok, Err, inl, inr}
-use Rattle.std.specs.Prelude.{◌⊎◌, IfOk, IfErr, MatchResult}
-use Rattle.scope_rules.specs.declared.types.refusals.Refusal.{Refusal}
-use Rattle.scope_rules.specs.declared.types.refusals.Refusal.TheVariants.{Memory, NotReady}
-use Rattle.share_ledger.specs.Values.{OwnerValue, TicketValue}
-use Rattle.realm_core.specs.declared.reports.CloseReport.{CloseReport}
-use Rattle.thread_pool.specs.Teams.{TeamValue}
-use Rattle.job_runner.specs.Reports.{ClosesHere, EndsOwn, JoinsHere, StaysHere, Held}
+use Rattle.std.proofs.Common.{ℕ, ◌≡◌, ◌⊎◌, Err, IfErr, IfOk, List, MatchResult, Ok, Result, inl, inr}
+use Rattle.job_runner.specs.{CloseReport, ClosesHere, EndsOwn, Held, JoinsHere, Memory, NotReady, OwnerValue, Refusal, StaysHere, TeamValue, TicketValue}
 
 pub comes_here : (old begun new : OwnerValue) (s : ℕ) (team joined left : TeamValue) (result : Result CloseReport Refusal) → JoinsHere old begun s team joined → IfOk result (λ report. EndsOwn s joined.returned begun new report) → IfErr result (λ refusal. Held s joined.returned left.returned begun new refusal) → left.running ≡ joined.running
     → MatchResult result (λ report. ClosesHere old new s team report) (λ refusal. StaysHere old new s team left refusal)

@@ -1,14 +1,6 @@
 -- A look from the innermost open scope, which is taken off the list and put back.
-use Rattle.std.proofs.Common.{◌≡◌, ℕ, Option, None, Some, List, [], ◌∷◌, ◌++◌, refl, sym, ap, ◌∙◌, inr}
-use Rattle.std.specs.Prelude.{IfSome}
-use Rattle.std.specs.Option.{MatchOption}
-use Rattle.once_cell.specs.Once.{Agrees}
-use Rattle.cancel_marks.specs.declared.marks.Mark.{Mark}
-use Rattle.cancel_marks.specs.Marked.{said_by}
-use Rattle.cancel_marks.specs.Seats.{CellValue, Seen}
-use Rattle.job_runner.specs.declared.contexts.OpenScope.{OpenScope}
-use Rattle.job_runner.specs.Lists.{KeepsOthers, ListsOne}
-use Rattle.job_runner.specs.Marks.{scope_here, scope_inside, seat_here, Shows}
+use Rattle.std.proofs.Common.{[], ℕ, ◌++◌, ◌∙◌, ◌∷◌, ◌≡◌, IfSome, List, None, Option, Some, ap, inr, refl, sym}
+use Rattle.job_runner.specs.{Agrees, CellValue, KeepsOthers, ListsOne, Mark, MatchOption, OpenScope, Seen, Shows, said_by, scope_here, scope_inside, seat_here}
 
 seat_last : (around : Option Seen) (others : List OpenScope) (last : OpenScope) → seat_here around (others ++ last ∷ []) ≡ Some last.reader
 seat_last around [] last = refl

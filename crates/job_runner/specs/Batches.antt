@@ -1,23 +1,9 @@
 -- What a batch of forks of jobs does, and answers.
-use Rattle.std.specs.Prelude.{◌≡◌, ℕ, List, [], ◌∷◌, ◌++◌, map, Option, None, Some, Result, Ok, Err, IfErr}
-use Rattle.std.specs.List.{All}
-use Rattle.scope_rules.specs.declared.types.answers.ForkReply.{ForkReply}
+use Rattle.std.specs.Prelude.{[], ℕ, ◌++◌, ◌∷◌, ◌≡◌, Err, IfErr, List, None, Ok, Option, Result, Some, map}
+use Rattle.realm_core.specs.declared.forking.Forked.TheVariants.{Never, Thread}
+use Rattle.job_runner.specs.Words.{All, ForkRefusal, ForkReply, Forked, ForksAll, ForksUpTo, HasThreadMore, IsSameTeam, LabelValue, NamedValue, OpenScope, OwnerValue, Refusal, Seen, SeesMore, TableId, TeamValue, TicketValue}
+use Rattle.job_runner.specs.{Forks.IsReadyFor, Forks.SpawnsJob, Forks.job_of, Forks.why_alone, Marks.IsMarkOf}
 use Rattle.scope_rules.specs.declared.types.answers.ForkReply.TheVariants as reply
-use Rattle.scope_rules.specs.declared.types.refusals.Refusal.{Refusal}
-use Rattle.scope_rules.specs.Ends.{LabelValue}
-use Rattle.atomic_table.specs.Seated.{TableId}
-use Rattle.share_ledger.specs.Named.{NamedValue}
-use Rattle.share_ledger.specs.Values.{OwnerValue, TicketValue}
-use Rattle.realm_core.specs.declared.forking.Forked.{Forked}
-use Rattle.realm_core.specs.declared.forking.Forked.TheVariants.{Thread, Never}
-use Rattle.realm_core.specs.Calls.{SeesMore}
-use Rattle.realm_lock.specs.Batches.{ForksAll, ForksUpTo}
-use Rattle.thread_pool.specs.Teams.{TeamValue, HasThreadMore, IsSameTeam}
-use Rattle.cancel_marks.specs.Seats.{Seen}
-use Rattle.job_runner.specs.declared.contexts.OpenScope.{OpenScope}
-use Rattle.job_runner.specs.declared.forking.ForkRefusal.{ForkRefusal}
-use Rattle.job_runner.specs.Marks.{IsMarkOf}
-use Rattle.job_runner.specs.Forks.{IsReadyFor, SpawnsJob, job_of, why_alone}
 
 -- the label of each job
 abbrev pub labels_of : {J : Type 0} → List (NamedValue J) → List LabelValue

@@ -1,16 +1,6 @@
 -- How a task ends whose job answered, and what the end of a context leaves.
-use Rattle.std.specs.Prelude.{◌≡◌, ℕ, ◌⊎◌, true, false, Bool, None, Some, is_some, Err, codes}
-use Rattle.scope_rules.specs.declared.types.records.Opening.{Opening}
-use Rattle.scope_rules.specs.declared.types.values.Fault.{Fault}
-use Rattle.scope_rules.specs.Names.{text_of}
-use Rattle.scope_rules.specs.Ends.{EndValue}
-use Rattle.scope_rules.specs.History.{History, opening}
-use Rattle.scope_rules.specs.Scopes.{closed, innermost}
-use Rattle.scope_rules.specs.Tasks.{stage, is_settled}
-use Rattle.share_ledger.specs.Steps.{IsLegal}
-use Rattle.share_ledger.specs.Tickets.{end_in}
-use Rattle.share_ledger.specs.Values.{OwnerValue, TicketValue}
-use Rattle.realm_core.specs.Calls.{history_seen}
+use Rattle.std.specs.Prelude.{ℕ, ◌≡◌, ◌⊎◌, Bool, Err, None, Some, codes, false, is_some, true}
+use Rattle.job_runner.specs.Words.{EndValue, Fault, History, IsLegal, Opening, OwnerValue, TicketValue, closed, end_in, history_seen, innermost, is_settled, opening, stage, text_of}
 
 -- whether the token shows a scope of its actor that is not closed
 abbrev pub has_open : OwnerValue → Bool

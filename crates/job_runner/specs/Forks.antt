@@ -1,25 +1,11 @@
 -- What a fork of a job does, and answers.
-use Rattle.std.specs.Prelude.{◌≡◌, ◌∷◌, ◌++◌, [], ℕ, None, Result, Ok, Err}
-use Rattle.scope_rules.specs.declared.types.answers.ForkReply.{ForkReply}
-use Rattle.scope_rules.specs.declared.types.answers.ForkReply.TheVariants.{Thread, Never}
-use Rattle.scope_rules.specs.declared.types.events.Event.TheVariants.{Fork, Reject}
-use Rattle.scope_rules.specs.declared.types.refusals.Refusal.{Refusal}
+use Rattle.std.specs.Prelude.{[], ℕ, ◌++◌, ◌∷◌, ◌≡◌, Err, None, Ok, Result}
+use Rattle.scope_rules.specs.declared.types.answers.ForkReply.TheVariants.{Never, Thread}
+use Rattle.job_runner.specs.Words.{Accepted, Added, EndValue, Fork, ForkRefusal, ForkReply, Happened, HasThreadMore, History, IsSameTeam, IsWaiting, LabelValue, NamedValue, OwnerValue, Refusal, Reject, Returns, SeesMore, TableId}
+use Rattle.job_runner.specs.Words.{TeamValue, TicketValue, end_in, fork_reply}
+use Rattle.job_runner.specs.{Endings.EndsAsMay, Rooms.DoesInRoom}
 use Rattle.scope_rules.specs.declared.types.refusals.Refusal.TheVariants as refusal
-use Rattle.scope_rules.specs.Ends.{EndValue, LabelValue}
-use Rattle.scope_rules.specs.History.{History}
-use Rattle.scope_rules.specs.Replies.{fork_reply}
-use Rattle.share_ledger.specs.declared.steps.RealmStep.TheVariants.{Happened}
-use Rattle.share_ledger.specs.Tickets.{end_in}
-use Rattle.atomic_table.specs.Seated.{TableId}
-use Rattle.share_ledger.specs.Named.{NamedValue}
-use Rattle.thread_pool.specs.Teams.{TeamValue, HasThreadMore, IsSameTeam}
-use Rattle.share_ledger.specs.Values.{OwnerValue, TicketValue, IsWaiting}
-use Rattle.realm_core.specs.Calls.{Accepted, Added, SeesMore}
-use Rattle.job_runner.specs.declared.forking.ForkRefusal.{ForkRefusal}
 use Rattle.job_runner.specs.declared.forking.ForkRefusal.TheVariants as refused
-use Rattle.thread_pool.specs.Returns.{Returns}
-use Rattle.job_runner.specs.Endings.{EndsAsMay}
-use Rattle.job_runner.specs.Rooms.{DoesInRoom}
 
 -- the ticket is of the realm of this name, and of a task with this label that waits for its thread
 pub record IsReadyFor (name : TableId) (label : LabelValue) (ticket : TicketValue) : Type 0 where

@@ -6,3 +6,11 @@ pub mod Reports
 pub mod Readiness
 pub mod Lists
 pub mod Batches
+pub mod Words
+unfoldable pub use Words.*
+pub use Batches.*
+pub use Endings.*
+pub use Forks.*
+pub use Lists.*
+pub use Marks.*
+pub use Reports.*

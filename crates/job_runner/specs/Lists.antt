@@ -1,8 +1,6 @@
 -- What a context's list of open scopes holds.
-use Rattle.std.specs.Prelude.{◌≡◌, ◌≢◌, ℕ, ◌⊎◌, None, Option, List, [], ◌∷◌, ◌++◌, nat_lt}
-use Rattle.std.specs.List.{All, filter}
-use Rattle.cancel_marks.specs.Seats.{Seen}
-use Rattle.job_runner.specs.declared.contexts.OpenScope.{OpenScope}
+use Rattle.std.specs.Prelude.{[], ℕ, ◌++◌, ◌∷◌, ◌≡◌, ◌≢◌, ◌⊎◌, List, None, Option, nat_lt}
+use Rattle.job_runner.specs.Words.{All, OpenScope, Seen, filter}
 
 -- scope s is listed as the last, with a seat that was shown nothing yet, and the others are as they were
 pub record ListsOne (s : ℕ) (old new : List OpenScope) : Type 0 where

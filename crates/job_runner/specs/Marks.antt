@@ -1,11 +1,6 @@
 -- Which seat a context's checkpoint looks from, and what it shows.
-use Rattle.std.specs.Prelude.{◌≡◌, ℕ, option_map, Option, None, Some, List, [], ◌∷◌}
-use Rattle.std.specs.Option.{MatchOption}
-use Rattle.once_cell.specs.Once.{Agrees}
-use Rattle.cancel_marks.specs.declared.marks.Mark.{Mark}
-use Rattle.cancel_marks.specs.Marked.{said_by}
-use Rattle.cancel_marks.specs.Seats.{Seen}
-use Rattle.job_runner.specs.declared.contexts.OpenScope.{OpenScope}
+use Rattle.std.specs.Prelude.{[], ℕ, ◌∷◌, ◌≡◌, List, None, Option, Some, option_map}
+use Rattle.job_runner.specs.Words.{Agrees, Mark, MatchOption, OpenScope, Seen, said_by}
 use Rattle.job_runner.specs.Lists.{IsUnlisted}
 
 -- the seat of the innermost open scope, or else the one of the scope around

@@ -1,13 +1,7 @@
 -- What a close with a report does in a context, hold by hold, with the tickets that its team holds by then.
-use Rattle.std.specs.Prelude.{◌≡◌, ℕ, ◌⊎◌, Ok, Err, List}
-use Rattle.std.specs.List.Sorted.{IsPermutation}
-use Rattle.scope_rules.specs.declared.types.answers.Cancelling.{Cancelling}
-use Rattle.scope_rules.specs.declared.types.refusals.Refusal.{Refusal}
-use Rattle.scope_rules.specs.declared.types.refusals.Refusal.TheVariants.{Memory}
-use Rattle.share_ledger.specs.Values.{OwnerValue, TicketValue}
-use Rattle.realm_core.specs.Closes.{Begins, EndsReported, HoldsBack}
-use Rattle.realm_core.specs.declared.reports.CloseReport.{CloseReport}
-use Rattle.thread_pool.specs.Teams.{TeamValue, Joins, ArePartedAt}
+use Rattle.std.specs.Prelude.{ℕ, ◌≡◌, ◌⊎◌, Err, List, Ok}
+use Rattle.thread_pool.specs.Teams.{Joins}
+use Rattle.job_runner.specs.Words.{ArePartedAt, Begins, Cancelling, CloseReport, EndsReported, HoldsBack, IsPermutation, Memory, OwnerValue, Refusal, TeamValue, TicketValue}
 
 -- a close that has begun ended, and its report is of those returned tickets that are of its scope, or of one
 -- that was opened later

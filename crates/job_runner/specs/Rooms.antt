@@ -1,11 +1,6 @@
 -- What a command does that makes room in its context before it is begun.
-use Rattle.std.specs.Prelude.{◌≡◌, ◌⊎◌, Result, Ok, Err}
-use Rattle.scope_rules.specs.declared.types.refusals.Refusal.{Refusal}
-use Rattle.scope_rules.specs.declared.types.refusals.Refusal.TheVariants.{Memory}
-use Rattle.scope_rules.specs.History.{History}
-use Rattle.share_ledger.specs.declared.steps.RealmStep.{RealmStep}
-use Rattle.share_ledger.specs.Values.{OwnerValue}
-use Rattle.realm_core.specs.Calls.{Accepted, DoesOrMemory}
+use Rattle.std.specs.Prelude.{◌≡◌, ◌⊎◌, Err, Ok, Result}
+use Rattle.job_runner.specs.Words.{Accepted, DoesOrMemory, History, Memory, OwnerValue, RealmStep, Refusal}
 
 -- the context had no room: nothing was begun
 pub record WithoutRoom (old new : OwnerValue) (refusal : Refusal) : Type 0 where

@@ -1,13 +1,7 @@
 //! Batches of jobs, the forks of each in one hold of the realm's lock.
 
-ghost use Rattle.std.specs.Prelude.{◌≡◌, ◌≤◌, [], Option, None, IfErr, IfOk, IfSome, length, vec_capacity};
-ghost use Rattle.std.specs.List.{All};
-ghost use Rattle.cancel_marks.specs.Seats.{Seen};
-ghost use Rattle.realm_core.specs.Calls.{SeesMore};
-ghost use Rattle.job_runner.specs.Marks.{IsMarkOf};
-ghost use Rattle.job_runner.specs.Forks.{IsReadyFor, SpawnsJob, job_of, why_alone};
-ghost use Rattle.job_runner.specs.Batches.{AreReady, ForksJobs, ForksLabels, IsReadyOne, StartsFirst, StartsOne, labels_of};
-ghost use Rattle.thread_pool.specs.Teams.{IsSameTeam};
+ghost use Rattle.std.specs.Prelude.{[], ◌≡◌, ◌≤◌, IfErr, IfOk, IfSome, None, Option, length, vec_capacity};
+ghost use Rattle.job_runner.specs.{All, AreReady, ForksJobs, ForksLabels, IsMarkOf, IsReadyFor, IsReadyOne, IsSameTeam, Seen, SeesMore, SpawnsJob, StartsFirst, StartsOne, job_of, labels_of, why_alone};
 
 use crate::contexts::TaskCtx;
 use crate::forking::ForkRefusal;

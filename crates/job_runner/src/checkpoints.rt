@@ -1,6 +1,5 @@
-ghost use Rattle.std.specs.Prelude.{◌≡◌, [], Some, IfSome, IsSome};
-ghost use Rattle.job_runner.specs.Lists.{KeepsOthers};
-ghost use Rattle.job_runner.specs.Marks.{scope_here, seat_here, Shows};
+ghost use Rattle.std.specs.Prelude.{[], ◌≡◌, IfSome, IsSome, Some};
+ghost use Rattle.job_runner.specs.{KeepsOthers, Shows, scope_here, seat_here};
 
 use crate::contexts::{OpenScope, TaskCtx};
 use crate::readers::CellReader;

@@ -1,5 +1,5 @@
 ghost use Rattle.std.specs.Prelude.{◌≡◌, IfSome, IsSome, Some};
-ghost use Rattle.realm_core.specs.Calls.{DoesOrMemory};
+ghost use Rattle.job_runner.specs.{DoesOrMemory};
 
 use crate::contexts::TaskCtx;
 use realm_lock::RealmName;

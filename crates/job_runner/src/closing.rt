@@ -1,11 +1,6 @@
-ghost use Rattle.std.specs.Prelude.{◌≡◌, ◌<◌, IsOk, MatchResult};
-ghost use Rattle.std.specs.List.{All};
-ghost use Rattle.share_ledger.specs.Values.{TicketValue};
-ghost use Rattle.realm_core.specs.Calls.{SeesMore, history_seen};
-ghost use Rattle.realm_core.specs.Waiting.{IsOpenOf};
-ghost use Rattle.realm_core.specs.Closes.{ClosesBare};
-ghost use Rattle.job_runner.specs.Lists.{ListsBelow};
-ghost use Rattle.thread_pool.specs.Teams.{AreGone, Joins};
+ghost use Rattle.std.specs.Prelude.{◌<◌, ◌≡◌, IsOk, MatchResult};
+ghost use Rattle.thread_pool.specs.Teams.{Joins};
+ghost use Rattle.job_runner.specs.{All, AreGone, ClosesBare, IsOpenOf, ListsBelow, SeesMore, TicketValue, history_seen};
 
 use crate::contexts::TaskCtx;
 use realm_lock::RealmName;

@@ -1,6 +1,5 @@
-ghost use Rattle.std.specs.Prelude.{◌≡◌, [], IfOk};
-ghost use Rattle.scope_rules.specs.Replies.{base_of};
-ghost use Rattle.realm_core.specs.Calls.{DoesOrMemory, RecordsOrMemory, history_seen};
+ghost use Rattle.std.specs.Prelude.{[], ◌≡◌, IfOk};
+ghost use Rattle.job_runner.specs.{DoesOrMemory, RecordsOrMemory, base_of, history_seen};
 
 use crate::contexts::TaskCtx;
 use realm_lock::RealmName;

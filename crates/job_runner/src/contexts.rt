@@ -1,6 +1,6 @@
-ghost use Rattle.std.specs.Prelude.{◌≡◌, [], None};
-ghost use Rattle.scope_rules.specs.Scopes.{innermost};
+ghost use Rattle.std.specs.Prelude.{[], ◌≡◌, None};
 ghost use Rattle.realm_core.specs.Calls.{history_seen};
+ghost use Rattle.scope_rules.specs.Scopes.{innermost};
 
 use crate::opaque::OpaqueRealm;
 use crate::readers::CellReader;

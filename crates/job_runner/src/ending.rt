@@ -1,10 +1,5 @@
-ghost use Rattle.std.specs.Prelude.{◌≡◌, Some, None, codes};
-ghost use Rattle.scope_rules.specs.Names.{text_of};
-ghost use Rattle.realm_core.specs.Calls.{SeesMore};
-ghost use Rattle.realm_core.specs.Tasks.{MayFinish};
-ghost use Rattle.share_ledger.specs.Tickets.{end_in};
-ghost use Rattle.thread_pool.specs.Returns.{Returns};
-ghost use Rattle.job_runner.specs.Endings.{Ended, LeavesNothing, NothingOpen, has_open};
+ghost use Rattle.std.specs.Prelude.{◌≡◌, None, Some, codes};
+ghost use Rattle.job_runner.specs.{Ended, LeavesNothing, MayFinish, NothingOpen, Returns, SeesMore, end_in, has_open, text_of};
 
 use crate::contexts::TaskCtx;
 use realm_lock::{ActorToken, Realm, RealmName, Ticket};

@@ -1,10 +1,5 @@
-ghost use Rattle.std.specs.Prelude.{◌≡◌, None, IfOk, IfErr, IfSome, MatchOption, OnSome};
-ghost use Rattle.realm_core.specs.Calls.{SeesMore};
-ghost use Rattle.realm_core.specs.Tasks.{IsNewTicket};
-ghost use Rattle.job_runner.specs.Lists.{IsUnlisted};
-ghost use Rattle.job_runner.specs.Marks.{IsMarkOf};
-ghost use Rattle.job_runner.specs.Forks.{ForksJob, IsReadyFor, KeepsThread, SpawnsJob, job_of, refusal_of, why_alone, why_of};
-ghost use Rattle.thread_pool.specs.Teams.{HasRoom, HasThreadMore, IsSameTeam};
+ghost use Rattle.std.specs.Prelude.{◌≡◌, IfErr, IfOk, IfSome, MatchOption, None, OnSome};
+ghost use Rattle.job_runner.specs.{ForksJob, HasRoom, HasThreadMore, IsMarkOf, IsNewTicket, IsReadyFor, IsSameTeam, IsUnlisted, KeepsThread, SeesMore, SpawnsJob, job_of, refusal_of, why_alone, why_of};
 
 use crate::contexts::TaskCtx;
 use crate::opaque::OpaqueRealm;

@@ -1,8 +1,5 @@
 ghost use Rattle.std.specs.Prelude.{◌≡◌, MatchResult};
-ghost use Rattle.scope_rules.specs.Replies.{next_scope};
-ghost use Rattle.scope_book.specs.Books.{refusal_alone};
-ghost use Rattle.join_rules.specs.Joiners.{policy_of};
-ghost use Rattle.realm_core.specs.Calls.{SeesMore};
+ghost use Rattle.job_runner.specs.{SeesMore, next_scope, policy_of, refusal_alone};
 
 use crate::contexts::{OpenScope, TaskCtx};
 use crate::readers::CellReader;

@@ -1,12 +1,6 @@
 ghost use Rattle.std.specs.Prelude.{◌≡◌, Err, IfErr, MatchResult};
-ghost use Rattle.scope_rules.specs.Tasks.{state};
-ghost use Rattle.scope_rules.specs.Cancels.{effective};
-ghost use Rattle.scope_rules.specs.Checks.{task_check};
-ghost use Rattle.scope_rules.specs.Table.{answering, until_check};
-ghost use Rattle.scope_rules.specs.Replies.{result_reply, fault_reply, binding_reply};
-ghost use Rattle.realm_state.specs.Fits.{Fitting};
-ghost use Rattle.realm_core.specs.Calls.{Reads, history_seen};
-ghost use Rattle.realm_core.specs.Views.{Joins, JoinsBare, MarkedViewAnswers, ViewAnswers};
+ghost use Rattle.realm_core.specs.Views.{Joins};
+ghost use Rattle.job_runner.specs.{Fitting, JoinsBare, MarkedViewAnswers, Reads, ViewAnswers, answering, binding_reply, effective, fault_reply, history_seen, result_reply, state, task_check, until_check};
 
 use crate::contexts::TaskCtx;
 use realm_lock::{BareOutcome, Joined, Look, Mark, Realm, RealmName, View};

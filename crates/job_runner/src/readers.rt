@@ -1,9 +1,5 @@
-ghost use Rattle.std.specs.Prelude.{◌≡◌, IfSome, IsNone, None, Some, Ok, MatchResult};
-ghost use Rattle.std.specs.Option.{MatchOption};
-ghost use Rattle.once_cell.specs.Once.{Agrees};
-ghost use Rattle.cancel_marks.specs.Marked.{said_by};
-ghost use Rattle.realm_core.specs.Calls.{SeesMore, history_seen};
-ghost use Rattle.realm_lock.specs.Waits.{HasCome, HasPassed, Stopped, Waited, shown_in};
+ghost use Rattle.std.specs.Prelude.{◌≡◌, IfSome, IsNone, MatchResult, None, Ok, Some};
+ghost use Rattle.job_runner.specs.{Agrees, HasCome, HasPassed, MatchOption, SeesMore, Stopped, Waited, history_seen, said_by, shown_in};
 
 use cancel_marks::{Mark, MarkCell, Seat};
 use realm_lock::{ActorToken, BellWait, Realm, RealmName};

@@ -1,13 +1,5 @@
-ghost use Rattle.std.specs.Prelude.{◌≡◌, ◌<◌, ◌⊎◌, IfOk, IfErr, MatchResult};
-ghost use Rattle.std.specs.List.{All};
-ghost use Rattle.share_ledger.specs.Values.{TicketValue};
-ghost use Rattle.scope_rules.specs.declared.types.refusals.Refusal.TheVariants.{Memory, NotReady};
-ghost use Rattle.realm_core.specs.Calls.{SeesMore, history_seen};
-ghost use Rattle.realm_core.specs.Waiting.{IsOpenOf};
-ghost use Rattle.realm_core.specs.Closes.{IsBegun};
-ghost use Rattle.job_runner.specs.Lists.{ListsBelow};
-ghost use Rattle.job_runner.specs.Reports.{ClosesHere, EndsOwn, Held, StaysHere};
-ghost use Rattle.thread_pool.specs.Teams.{AreGone};
+ghost use Rattle.std.specs.Prelude.{◌<◌, ◌≡◌, ◌⊎◌, IfErr, IfOk, MatchResult};
+ghost use Rattle.job_runner.specs.{All, AreGone, ClosesHere, EndsOwn, Held, IsBegun, IsOpenOf, ListsBelow, Memory, NotReady, SeesMore, StaysHere, TicketValue, history_seen};
 
 use crate::contexts::TaskCtx;
 use realm_lock::{CloseReport, RealmName};

@@ -1,8 +1,7 @@
 //! A job that its forker runs itself.
 
 ghost use Rattle.std.specs.Prelude.{◌≡◌, IfErr, IfOk};
-ghost use Rattle.realm_core.specs.Calls.{SeesMore};
-ghost use Rattle.job_runner.specs.Forks.{ForksJob, RanHere, job_of, why_alone};
+ghost use Rattle.job_runner.specs.{ForksJob, RanHere, SeesMore, job_of, why_alone};
 
 use crate::contexts::TaskCtx;
 use crate::forking::ForkRefusal;

@@ -1,14 +1,6 @@
-ghost use Rattle.std.specs.Prelude.{◌≡◌, ◌⊎◌, [], None, Some, Ok, IfOk, IfErr, IfSome, IsNone, IsSome, MatchResult};
-ghost use Rattle.scope_rules.specs.declared.types.refusals.Refusal.TheVariants.{Memory, NotReady};
-ghost use Rattle.realm_state.specs.Fits.{Fitting};
-ghost use Rattle.realm_core.specs.Calls.{SeesMore, history_seen};
-ghost use Rattle.realm_core.specs.Waiting.{FoundUnsettled, IsOpenOf};
-ghost use Rattle.realm_core.specs.Closes.{ClosesBare, IsBegun};
-ghost use Rattle.realm_lock.specs.Waits.{ClosesAfter, HasCome, HasPassed, JoinsBy, StaysUnclosed, Stopped, StopsClosing, Waited, WaitsToClose, shown_in};
-ghost use Rattle.job_runner.specs.Lists.{KeepsOthers, ListsBelow};
-ghost use Rattle.job_runner.specs.Marks.{scope_here, seat_here, Shows};
-ghost use Rattle.job_runner.specs.Reports.{ClosesHere, StaysHere};
-ghost use Rattle.thread_pool.specs.Teams.{AreGone};
+ghost use Rattle.std.specs.Prelude.{[], ◌≡◌, ◌⊎◌, IfErr, IfOk, IfSome, IsNone, IsSome, MatchResult, None, Ok, Some};
+ghost use Rattle.job_runner.specs.{AreGone, ClosesAfter, ClosesBare, ClosesHere, Fitting, FoundUnsettled, HasCome, HasPassed, IsBegun, IsOpenOf, JoinsBy, KeepsOthers, ListsBelow, Memory, NotReady, SeesMore, Shows, StaysHere};
+ghost use Rattle.job_runner.specs.{StaysUnclosed, Stopped, StopsClosing, Waited, WaitsToClose, history_seen, scope_here, seat_here, shown_in};
 
 use crate::contexts::{OpenScope, TaskCtx};
 use crate::readers::CellReader;

@@ -1,16 +1,8 @@
 //! Jobs of a batch that are handed to the spawner together.
 
-ghost use Rattle.std.specs.Prelude.{◌≡◌, ℕ, ◌+◌, ◌≤◌, List, [], ◌∷◌, ◌++◌, Option, IfSome, MatchOption, OnSome, length, map, reverse, vec_capacity, vec_len};
-ghost use Rattle.std.specs.List.{All};
-ghost use Rattle.std.specs.VecDeque.{deque_capacity, deque_len};
-ghost use Rattle.cancel_marks.specs.Seats.{Seen};
-ghost use Rattle.share_ledger.specs.Values.{TicketValue};
+ghost use Rattle.std.specs.Prelude.{[], ℕ, ◌++◌, ◌+◌, ◌∷◌, ◌≡◌, ◌≤◌, IfSome, List, MatchOption, OnSome, Option, length, map, reverse, vec_capacity, vec_len};
 ghost use Rattle.realm_core.specs.declared.forking.Forked.TheVariants.{Thread};
-ghost use Rattle.job_runner.specs.declared.contexts.OpenScope.{OpenScope};
-ghost use Rattle.job_runner.specs.declared.works.JobWork.{JobWork};
-ghost use Rattle.job_runner.specs.Marks.{IsMarkOf};
-ghost use Rattle.job_runner.specs.Batches.{AreReady, ArePaired, IsStarting, started};
-ghost use Rattle.thread_pool.specs.Teams.{HasRoomFor, IsSameTeam};
+ghost use Rattle.job_runner.specs.{All, ArePaired, AreReady, HasRoomFor, IsMarkOf, IsSameTeam, IsStarting, JobWork, OpenScope, Seen, TicketValue, deque_capacity, deque_len, started};
 
 use crate::contexts::TaskCtx;
 use crate::forking::ForkRefusal;

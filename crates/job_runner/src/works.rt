@@ -1,7 +1,5 @@
 ghost use Rattle.std.specs.Prelude.{◌≡◌};
-ghost use Rattle.thread_pool.specs.Returns.{Returns};
-ghost use Rattle.job_runner.specs.Endings.{EndsAsMay};
-ghost use Rattle.job_runner.specs.Forks.{IsReadyFor};
+ghost use Rattle.job_runner.specs.{EndsAsMay, IsReadyFor, Returns};
 
 use crate::contexts::TaskCtx;
 use crate::jobs::Job;

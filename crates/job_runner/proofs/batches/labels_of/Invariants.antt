@@ -1,7 +1,6 @@
 -- The labels of the jobs before the index are listed, and there is room for the others.
-use Rattle.std.proofs.Common.{◌≡◌, ◌≤◌, length, take, vec_len}
-use Rattle.std.specs.Prelude.{vec_capacity}
-use Rattle.job_runner.specs.Batches.{labels_of}
+use Rattle.std.proofs.Common.{◌≡◌, ◌≤◌, length, take, vec_capacity, vec_len}
+use Rattle.job_runner.specs.{labels_of}
 use Rattle.job_runner.proofs.batches.labels_of.Given as goal
 
 abbrev pub invariant-loop-job : goal.invariant-loop-job

@@ -1,5 +1,5 @@
-use Rattle.std.proofs.Common.{◌≡◌, true, false, refl}
-use Rattle.scope_rules.specs.NameText.{is_name}
+use Rattle.std.proofs.Common.{◌≡◌, false, refl, true}
+use Rattle.job_runner.specs.{is_name}
 use Rattle.job_runner.proofs.ending.left_open.Goals as goal
 
 -- the text may be a name

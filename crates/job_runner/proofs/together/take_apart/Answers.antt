@@ -1,12 +1,8 @@
-use Rattle.std.proofs.Common.{ℕ, ◌∷◌, ◌++◌, List, Option, Some, map, reverse, arith}
-use Rattle.std.proofs.lemmas.List.Elements.{All-pop, All-push, All-same}
-use Rattle.cancel_marks.specs.Seats.{Seen}
-use Rattle.share_ledger.specs.Values.{TicketValue}
+use Rattle.std.proofs.Common.{ℕ, ◌++◌, ◌∷◌, List, Option, Some, arith, map, reverse}
 use Rattle.realm_core.specs.declared.forking.Forked.TheVariants.{Thread}
-use Rattle.job_runner.specs.declared.works.JobWork.{JobWork}
-use Rattle.job_runner.specs.Marks.{IsMarkOf}
-use Rattle.job_runner.proofs.Batched.{reverse_popped}
-use Rattle.job_runner.proofs.Paired.{item_back}
+use Rattle.job_runner.specs.{IsMarkOf, JobWork, Seen, TicketValue}
+use Rattle.job_runner.proofs.Words.{All-pop, All-push, All-same}
+use Rattle.job_runner.proofs.{Batched.reverse_popped, Paired.item_back}
 use Rattle.job_runner.proofs.together.take_apart.Goals as goal
 
 pub loop-next-preserved : goal.loop-next-preserved

@@ -1,14 +1,7 @@
 -- Each turn puts one work back, which is the last of those that are left.
-use Rattle.std.proofs.Common.{◌≡◌, ℕ, ◌+◌, ◌≤◌, List, ◌++◌, Option, map, reverse, vec_len}
-use Rattle.std.specs.Prelude.{vec_capacity}
-use Rattle.std.specs.List.{All}
-use Rattle.std.specs.VecDeque.{deque_len}
-use Rattle.cancel_marks.specs.Seats.{Seen}
-use Rattle.share_ledger.specs.Values.{TicketValue}
+use Rattle.std.proofs.Common.{ℕ, ◌++◌, ◌+◌, ◌≡◌, ◌≤◌, List, Option, map, reverse, vec_capacity, vec_len}
 use Rattle.realm_core.specs.declared.forking.Forked.TheVariants.{Thread}
-use Rattle.job_runner.specs.declared.contexts.OpenScope.{OpenScope}
-use Rattle.job_runner.specs.declared.works.JobWork.{JobWork}
-use Rattle.job_runner.specs.Marks.{IsMarkOf}
+use Rattle.job_runner.specs.{All, IsMarkOf, JobWork, OpenScope, Seen, TicketValue, deque_len}
 use Rattle.job_runner.proofs.together.take_apart.Given as goal
 
 abbrev pub invariant-loop-next : goal.invariant-loop-next

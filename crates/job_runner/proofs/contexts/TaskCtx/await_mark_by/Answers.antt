@@ -1,8 +1,6 @@
-use Rattle.std.proofs.Common.{refl, subst}
-use Rattle.share_ledger.specs.Values.{OwnerValue}
-use Rattle.realm_core.specs.Calls.{SeesMore}
-use Rattle.realm_lock.specs.Waits.{shown_in}
-use Rattle.job_runner.proofs.Seated.{of_last, shows_last, keeps_others, shown_seat}
+use Rattle.job_runner.specs.{OwnerValue, SeesMore, shown_in}
+use Rattle.job_runner.proofs.Words.{refl, subst}
+use Rattle.job_runner.proofs.Seated.{keeps_others, of_last, shown_seat, shows_last}
 use Rattle.job_runner.proofs.contexts.TaskCtx.await_mark_by.Goals as goal
 
 pub returns-in-Some-clause-rest : goal.returns-in-Some-clause-rest

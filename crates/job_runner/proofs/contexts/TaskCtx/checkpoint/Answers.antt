@@ -1,5 +1,5 @@
-use Rattle.std.proofs.Common.{refl}
-use Rattle.job_runner.proofs.Seated.{of_last, shown_seat, shows_last, keeps_others}
+use Rattle.job_runner.proofs.Words.{refl}
+use Rattle.job_runner.proofs.Seated.{keeps_others, of_last, shown_seat, shows_last}
 use Rattle.job_runner.proofs.contexts.TaskCtx.checkpoint.Goals as goal
 
 pub returns-in-Some-clause-shows : goal.returns-in-Some-clause-shows

@@ -1,10 +1,6 @@
-use Rattle.std.proofs.Common.{◌≡◌, ap, sym, subst}
-use Rattle.std.specs.Prelude.{IfOk, IfErr}
-use Rattle.share_ledger.specs.Values.{OwnerValue}
-use Rattle.realm_core.specs.Calls.{SeesMore}
-use Rattle.realm_core.specs.Closes.{Begins}
+use Rattle.std.proofs.Common.{◌≡◌, IfErr, IfOk, ap, subst, sym}
 use Rattle.thread_pool.specs.Teams.{Joins}
-use Rattle.job_runner.specs.Reports.{EndsOwn, Held}
+use Rattle.job_runner.specs.{Begins, EndsOwn, Held, OwnerValue, SeesMore}
 use Rattle.job_runner.proofs.Reported.{comes_here, held_why}
 use Rattle.job_runner.proofs.contexts.TaskCtx.close_scope.Goals as goal
 

@@ -1,8 +1,5 @@
-use Rattle.std.proofs.Common.{◌≡◌, ℕ, List, ap, sym, subst, ◌∙◌}
-use Rattle.share_ledger.specs.Values.{OwnerValue}
-use Rattle.scope_rules.specs.Verdicts.{verdict}
-use Rattle.realm_core.specs.Calls.{history_seen}
-use Rattle.realm_core.specs.Closes.{Begins, ClosesDown, EndsLater}
+use Rattle.std.proofs.Common.{ℕ, ◌∙◌, ◌≡◌, List, ap, subst, sym}
+use Rattle.job_runner.specs.{Begins, ClosesDown, EndsLater, OwnerValue, history_seen, verdict}
 use Rattle.job_runner.proofs.contexts.TaskCtx.close_scope_bare.Goals as goal
 
 -- what begins the close, and what ends it; the threads are joined between, and the token stays

@@ -1,11 +1,6 @@
-use Rattle.std.proofs.Common.{ap, subst}
-use Rattle.std.specs.Prelude.{MatchResult, None}
-use Rattle.realm_core.specs.Calls.{history_seen}
-use Rattle.realm_core.specs.Waiting.{FoundUnsettled}
-use Rattle.thread_pool.specs.Teams.{TeamValue}
-use Rattle.realm_lock.proofs.Waits.{ok_after, err_after}
-use Rattle.job_runner.specs.Reports.{ClosesHere, StaysHere}
-use Rattle.job_runner.proofs.Reported.{if_ok_beside, if_err_beside}
+use Rattle.job_runner.specs.{ClosesHere, FoundUnsettled, MatchResult, None, StaysHere, TeamValue, history_seen}
+use Rattle.job_runner.proofs.Words.{ap, err_after, ok_after, subst}
+use Rattle.job_runner.proofs.Reported.{if_err_beside, if_ok_beside}
 use Rattle.job_runner.proofs.contexts.TaskCtx.close_scope_by.Goals as goal
 
 pub returns-in-Ok-clause-closed : goal.returns-in-Ok-clause-closed

@@ -1,5 +1,5 @@
 -- The token goes on seeing.
-use Rattle.realm_core.specs.Calls.{SeesMore}
+use Rattle.job_runner.specs.{SeesMore}
 use Rattle.job_runner.proofs.contexts.TaskCtx.close_what_is_open.Given as goal
 
 abbrev pub invariant-loop : goal.invariant-loop

@@ -1,7 +1,6 @@
 -- The end was refused exactly if the token had shown an open scope.
-use Rattle.std.proofs.Common.{◌≡◌, ap, sym, ◌∙◌}
-use Rattle.share_ledger.specs.Tickets.{end_in}
-use Rattle.share_ledger.specs.Values.{OwnerValue, TicketValue}
+use Rattle.std.proofs.Common.{◌∙◌, ◌≡◌, ap, sym}
+use Rattle.job_runner.specs.{OwnerValue, TicketValue, end_in}
 use Rattle.job_runner.proofs.Ended.{ended_unopened, refused_open}
 use Rattle.job_runner.proofs.contexts.TaskCtx.end_task.Goals as goal
 

@@ -1,7 +1,6 @@
-use Rattle.std.proofs.Common.{◌≡◌, ◌++◌, ap, sym, subst, inl, arith}
-use Rattle.std.proofs.lemmas.List.Sorted.{All-permutation, IsPermutation-append_comm, IsPermutation-append_right, IsPermutation-trans, length_permutation}
-use Rattle.share_ledger.specs.Values.{OwnerValue, TicketValue}
-use Rattle.realm_core.specs.Closes.{EndsReported, HoldsBack}
+use Rattle.std.proofs.Common.{◌++◌, ◌≡◌, ap, arith, inl, subst, sym}
+use Rattle.job_runner.specs.{EndsReported, HoldsBack, OwnerValue, TicketValue}
+use Rattle.job_runner.proofs.Words.{All-permutation, IsPermutation-append_comm, IsPermutation-append_right, IsPermutation-trans, length_permutation}
 use Rattle.job_runner.proofs.contexts.TaskCtx.end_with_report.Goals as goal
 
 pub returns-in-Ok-clause-closed : goal.returns-in-Ok-clause-closed

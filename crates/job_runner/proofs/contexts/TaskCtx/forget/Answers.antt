@@ -1,9 +1,6 @@
-use Rattle.std.proofs.Common.{◌≡◌, ◌<◌, true, nat_lt, sym, subst, arith, rules}
-use Rattle.std.specs.List.{All}
-use Rattle.std.proofs.lemmas.Bool.Decides.{nat_tests}
-use Rattle.std.proofs.lemmas.List.Elements.{All-weaker, filter_passes}
-use Rattle.share_ledger.specs.Values.{TicketValue}
-use Rattle.std.proofs.lemmas.Fn.{filter_same}
+use Rattle.std.proofs.Common.{◌<◌, ◌≡◌, arith, nat_lt, rules, subst, sym, true}
+use Rattle.job_runner.specs.{All, TicketValue}
+use Rattle.job_runner.proofs.Words.{All-weaker, filter_passes, filter_same, nat_tests}
 use Rattle.job_runner.proofs.contexts.TaskCtx.forget.Goals as goal
 
 pub returns-clause-opened : goal.returns-clause-opened

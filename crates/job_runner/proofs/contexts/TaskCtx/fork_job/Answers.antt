@@ -1,9 +1,6 @@
-use Rattle.std.proofs.Common.{ap}
 use Rattle.scope_rules.specs.declared.types.answers.ForkReply.TheVariants.{Thread}
-use Rattle.scope_rules.specs.declared.types.events.Event.TheVariants.{Fork}
-use Rattle.share_ledger.specs.declared.steps.RealmStep.TheVariants.{Happened}
-use Rattle.realm_core.specs.Calls.{Accepted, SeesMore}
-use Rattle.job_runner.specs.Forks.{reply_there, why_alone}
+use Rattle.job_runner.specs.{Accepted, Fork, Happened, SeesMore, reply_there, why_alone}
+use Rattle.job_runner.proofs.Words.{ap}
 use Rattle.job_runner.proofs.Forked.{forked_job, keeps_thread}
 use Rattle.job_runner.proofs.contexts.TaskCtx.fork_job.Goals as goal
 

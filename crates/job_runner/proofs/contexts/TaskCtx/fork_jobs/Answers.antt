@@ -1,9 +1,5 @@
-use Rattle.std.proofs.Common.{◌∙◌, Option, length, refl, ap, sym, subst, arith}
-use Rattle.std.specs.List.{All}
-use Rattle.cancel_marks.specs.Seats.{Seen}
-use Rattle.thread_pool.specs.Teams.{TeamValue, IsSameTeam}
-use Rattle.job_runner.specs.Marks.{IsMarkOf}
-use Rattle.job_runner.specs.Batches.{labels_of}
+use Rattle.job_runner.specs.{All, IsMarkOf, IsSameTeam, Seen, TeamValue, labels_of}
+use Rattle.job_runner.proofs.Words.{◌∙◌, Option, ap, arith, length, refl, subst, sym}
 use Rattle.job_runner.proofs.Batched.{forks_jobs, forks_nothing, labels_forked, labels_ready, none_left, ready_length}
 use Rattle.job_runner.proofs.contexts.TaskCtx.fork_jobs.Goals as goal
 

@@ -1,6 +1,5 @@
-use Rattle.std.proofs.Common.{sym, subst}
-use Rattle.share_ledger.specs.Values.{OwnerValue}
-use Rattle.job_runner.specs.Endings.{NothingOpen}
+use Rattle.job_runner.specs.{NothingOpen, OwnerValue}
+use Rattle.job_runner.proofs.Words.{subst, sym}
 use Rattle.job_runner.proofs.Ended.{leaves_nothing}
 use Rattle.job_runner.proofs.contexts.TaskCtx.leave.Goals as goal
 

@@ -1,5 +1,5 @@
-use Rattle.std.proofs.Common.{refl, ap, ◌∙◌}
-use Rattle.cancel_marks.specs.Seats.{Seen}
+use Rattle.job_runner.specs.{Seen}
+use Rattle.job_runner.proofs.Words.{◌∙◌, ap, refl}
 use Rattle.job_runner.proofs.Seated.{lists_pushed}
 use Rattle.job_runner.proofs.contexts.TaskCtx.open.Goals as goal
 

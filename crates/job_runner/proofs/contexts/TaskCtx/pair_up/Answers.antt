@@ -1,11 +1,8 @@
-use Rattle.std.proofs.Common.{◌∷◌, ◌++◌, Option, Some, reverse, arith, rules}
-use Rattle.std.proofs.lemmas.List.Elements.{All-pop}
-use Rattle.cancel_marks.specs.Seats.{Seen}
+use Rattle.std.proofs.Common.{◌++◌, ◌∷◌, Option, Some, arith, reverse, rules}
 use Rattle.realm_core.specs.declared.forking.Forked.TheVariants.{Thread}
-use Rattle.job_runner.specs.declared.works.JobWork.{JobWork}
-use Rattle.job_runner.specs.Marks.{IsMarkOf}
-use Rattle.job_runner.proofs.Batched.{ready_first, ready_rest, reverse_popped}
-use Rattle.job_runner.proofs.Paired.{answers_more, paired_more}
+use Rattle.job_runner.specs.{IsMarkOf, JobWork, Seen}
+use Rattle.job_runner.proofs.Words.{All-pop}
+use Rattle.job_runner.proofs.{Batched.ready_first, Batched.ready_rest, Batched.reverse_popped, Paired.answers_more, Paired.paired_more}
 use Rattle.job_runner.proofs.contexts.TaskCtx.pair_up.Goals as goal
 
 pub loop-ticket-preserved : goal.loop-ticket-preserved

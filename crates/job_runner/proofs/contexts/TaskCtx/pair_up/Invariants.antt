@@ -1,12 +1,6 @@
 -- The works so far are of the first jobs, and each ticket that is left may be given to its own job.
-use Rattle.std.proofs.Common.{◌≡◌, ◌+◌, ◌≤◌, Option, length, reverse, vec_len}
-use Rattle.std.specs.Prelude.{vec_capacity}
-use Rattle.std.specs.List.{All}
-use Rattle.std.specs.VecDeque.{deque_capacity, deque_len}
-use Rattle.cancel_marks.specs.Seats.{Seen}
-use Rattle.job_runner.specs.declared.works.JobWork.{JobWork}
-use Rattle.job_runner.specs.Marks.{IsMarkOf}
-use Rattle.job_runner.specs.Batches.{AreReady, ArePaired, started}
+use Rattle.std.proofs.Common.{◌+◌, ◌≡◌, ◌≤◌, Option, length, reverse, vec_capacity, vec_len}
+use Rattle.job_runner.specs.{All, ArePaired, AreReady, IsMarkOf, JobWork, Seen, deque_capacity, deque_len, started}
 use Rattle.job_runner.proofs.contexts.TaskCtx.pair_up.Given as goal
 
 abbrev pub invariant-loop-ticket : goal.invariant-loop-ticket

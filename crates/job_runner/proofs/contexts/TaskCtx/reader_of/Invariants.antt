@@ -1,6 +1,6 @@
 -- No scope before the index has the number.
-use Rattle.std.proofs.Common.{take}
-use Rattle.job_runner.specs.Lists.{IsUnlisted}
+use Rattle.job_runner.specs.{IsUnlisted}
+use Rattle.job_runner.proofs.Words.{take}
 use Rattle.job_runner.proofs.contexts.TaskCtx.reader_of.Given as goal
 
 abbrev pub invariant-loop-open : goal.invariant-loop-open

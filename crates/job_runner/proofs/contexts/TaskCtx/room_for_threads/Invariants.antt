@@ -1,10 +1,6 @@
 -- There is room for so many threads as were counted, and nothing else has changed.
-use Rattle.std.proofs.Common.{◌≡◌, ◌≤◌, Option, vec_len}
-use Rattle.std.specs.Prelude.{vec_capacity}
-use Rattle.std.specs.List.{All}
-use Rattle.cancel_marks.specs.Seats.{Seen}
-use Rattle.thread_pool.specs.Teams.{IsSameTeam}
-use Rattle.job_runner.specs.Marks.{IsMarkOf}
+use Rattle.std.proofs.Common.{◌≡◌, ◌≤◌, Option, vec_capacity, vec_len}
+use Rattle.job_runner.specs.{All, IsMarkOf, IsSameTeam, Seen}
 use Rattle.job_runner.proofs.contexts.TaskCtx.room_for_threads.Given as goal
 
 abbrev pub invariant-loop : goal.invariant-loop

@@ -1,12 +1,7 @@
 -- The fork is recorded, and the ticket that the work gave back is the last of those that came back.
-use Rattle.std.proofs.Common.{◌≡◌, ◌∙◌, ap, sym, subst, List, [], ◌∷◌, ◌++◌}
+use Rattle.std.proofs.Common.{[], ◌++◌, ◌∙◌, ◌∷◌, ◌≡◌, List, ap, subst, sym}
 use Rattle.scope_rules.specs.declared.types.answers.ForkReply.TheVariants.{Thread}
-use Rattle.scope_rules.specs.declared.types.events.Event.TheVariants.{Fork}
-use Rattle.share_ledger.specs.declared.steps.RealmStep.TheVariants.{Happened}
-use Rattle.share_ledger.specs.Values.{TicketValue}
-use Rattle.realm_core.specs.Calls.{Accepted}
-use Rattle.thread_pool.specs.Returns.{Returns}
-use Rattle.job_runner.specs.Forks.{reply_there, ticket_of}
+use Rattle.job_runner.specs.{Accepted, Fork, Happened, Returns, TicketValue, reply_there, ticket_of}
 use Rattle.job_runner.proofs.contexts.TaskCtx.run_job.Goals as goal
 
 pub returns-in-Ok-Thread-clause-answer : goal.returns-in-Ok-Thread-clause-answer

@@ -1,7 +1,6 @@
-use Rattle.std.proofs.Common.{◌≡◌, ◌∷◌, Option, Some, reverse, ap, sym, subst, rules}
-use Rattle.std.proofs.lemmas.List.Elements.{All-pop}
-use Rattle.cancel_marks.specs.Seats.{Seen}
-use Rattle.job_runner.specs.Marks.{IsMarkOf}
+use Rattle.std.proofs.Common.{◌∷◌, ◌≡◌, Option, Some, ap, reverse, rules, subst, sym}
+use Rattle.job_runner.specs.{IsMarkOf, Seen}
+use Rattle.job_runner.proofs.Words.{All-pop}
 use Rattle.job_runner.proofs.Batched.{ready_rest, reverse_popped, starting_on, starting_ready, starting_turned}
 use Rattle.job_runner.proofs.contexts.TaskCtx.start_all.Goals as goal
 

@@ -1,10 +1,6 @@
 -- The first jobs were started, and each ticket that is left may be given to its own job.
-use Rattle.std.proofs.Common.{◌≡◌, ◌+◌, ◌≤◌, Option, length, reverse, vec_len}
-use Rattle.std.specs.Prelude.{vec_capacity}
-use Rattle.std.specs.List.{All}
-use Rattle.cancel_marks.specs.Seats.{Seen}
-use Rattle.job_runner.specs.Marks.{IsMarkOf}
-use Rattle.job_runner.specs.Batches.{AreReady, IsStarting}
+use Rattle.std.proofs.Common.{◌+◌, ◌≡◌, ◌≤◌, Option, length, reverse, vec_capacity, vec_len}
+use Rattle.job_runner.specs.{All, AreReady, IsMarkOf, IsStarting, Seen}
 use Rattle.job_runner.proofs.contexts.TaskCtx.start_all.Given as goal
 
 abbrev pub invariant-loop-next : goal.invariant-loop-next

@@ -1,8 +1,5 @@
-use Rattle.std.proofs.Common.{subst}
-use Rattle.scope_rules.specs.declared.types.events.Event.TheVariants.{Reject}
-use Rattle.share_ledger.specs.declared.steps.RealmStep.TheVariants.{Happened}
-use Rattle.share_ledger.specs.Values.{OwnerValue, TicketValue}
-use Rattle.realm_core.specs.Calls.{Added}
+use Rattle.job_runner.specs.{Added, Happened, OwnerValue, Reject, TicketValue}
+use Rattle.job_runner.proofs.Words.{subst}
 use Rattle.job_runner.proofs.contexts.TaskCtx.start_ready.Goals as goal
 
 pub returns-in-Err-clause-answer : goal.returns-in-Err-clause-answer

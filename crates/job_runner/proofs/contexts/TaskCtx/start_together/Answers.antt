@@ -1,11 +1,7 @@
-use Rattle.std.proofs.Common.{◌≡◌, Option, length, map, reverse, ap, arith, subst}
-use Rattle.std.specs.List.{All}
-use Rattle.std.proofs.lemmas.List.{length-map}
-use Rattle.cancel_marks.specs.Seats.{Seen}
-use Rattle.share_ledger.specs.Values.{TicketValue}
-use Rattle.job_runner.specs.declared.works.JobWork.{JobWork}
-use Rattle.job_runner.specs.Marks.{IsMarkOf}
-use Rattle.job_runner.proofs.Paired.{All-behind, scopes_taken, starting_first, started_length, taken_fits}
+use Rattle.std.proofs.Common.{◌≡◌, Option, ap, arith, length, map, reverse, subst}
+use Rattle.job_runner.specs.{All, IsMarkOf, JobWork, Seen, TicketValue}
+use Rattle.job_runner.proofs.Words.{length-map}
+use Rattle.job_runner.proofs.Paired.{All-behind, scopes_taken, started_length, starting_first, taken_fits}
 use Rattle.job_runner.proofs.contexts.TaskCtx.start_together.Goals as goal
 
 pub add_all-requires-clause-room : goal.add_all-requires-clause-room

@@ -1,5 +1,5 @@
-use Rattle.std.proofs.Common.{Some, refl}
-use Rattle.job_runner.proofs.Seated.{of_last, shows_last, keeps_others}
+use Rattle.job_runner.proofs.Words.{Some, refl}
+use Rattle.job_runner.proofs.Seated.{keeps_others, of_last, shows_last}
 use Rattle.job_runner.proofs.contexts.TaskCtx.wait_cancelled.Goals as goal
 
 pub returns-in-Some-clause-shows : goal.returns-in-Some-clause-shows

@@ -1,5 +1,5 @@
-use Rattle.std.proofs.Common.{subst}
-use Rattle.job_runner.specs.Endings.{has_open}
+use Rattle.job_runner.specs.{has_open}
+use Rattle.job_runner.proofs.Words.{subst}
 use Rattle.job_runner.proofs.Ended.{ends_as_may}
 use Rattle.job_runner.proofs.works.JobWorkWork.run.Goals as goal
 
