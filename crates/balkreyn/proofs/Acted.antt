@@ -1,14 +1,7 @@
 -- What was done by a context that knows the realm's time.
-use Rattle.std.specs.Prelude.{◌≡◌, ℕ, Option, None, Some, IfSome, Result, Ok, Err, MatchResult, is_some, true, false}
-use Rattle.std.specs.Borrow.{MutBor}
-use Rattle.std.specs.Fn.{CalledWithState, Mut}
-use Rattle.std.proofs.Common.{inl, refl, subst, sym, true≢false}
-use Rattle.cancel_marks.specs.declared.marks.Mark.{Mark}
-use Rattle.scope_rules.specs.declared.types.refusals.Refusal.{Refusal}
-use Rattle.share_ledger.specs.Values.{OwnerValue}
-use Rattle.realm_core.specs.Calls.{history_seen}
-use Rattle.realm_lock.specs.Waits.{HasCome, HasPassed, Stopped, Waited}
-use Rattle.balkreyn.specs.Acting.{EndsTries, Heard, Slept}
+use Rattle.std.specs.Prelude.{ℕ, ◌≡◌, Err, IfSome, MatchResult, None, Ok, Option, Result, Some, false, is_some, true}
+use Rattle.balkreyn.specs.{CalledWithState, EndsTries, HasCome, HasPassed, Heard, Mark, Mut, MutBor, OwnerValue, Refusal, Slept, Stopped, Waited, history_seen}
+use Rattle.balkreyn.proofs.Words.{inl, refl, subst, sym, true≢false}
 
 -- if no mark was shown, the moment has passed
 pub slept : {K : Type 0} (reads : K → K → ℕ → Type 0) (reading : K → Option ℕ) (old new : OwnerValue) (start last : K) (given until : ℕ) → given ≡ until → (result : Result (Option Mark) Refusal) → MatchResult result (λ _. Waited reads old start new last) (Stopped reads old new start last) → (result ≡ Ok None → HasPassed (Some given) (reading last)) → Slept reads reading old new start last until result

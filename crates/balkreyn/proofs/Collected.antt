@@ -1,11 +1,8 @@
 -- What was collected of all that came, as far as one has looked.
-use Rattle.std.proofs.Common.{◌≡◌, ◌++◌, ◌∷◌, ◌∙◌, List, [], Option, None, Some, All, map, refl, ap, subst, sym}
-use Rattle.std.proofs.lemmas.List.{append_assoc, append-nil, map-append}
-use Rattle.std.proofs.lemmas.List.Elements.{All-append, All-cons, All-nil}
-use Rattle.cancel_marks.specs.declared.marks.Mark.{Mark}
-use Rattle.balkreyn.specs.declared.act.came.Came.{Came}
+use Rattle.std.proofs.Common.{[], ◌++◌, ◌∙◌, ◌∷◌, ◌≡◌, All, List, None, Option, Some, ap, map, refl, subst, sym}
+use Rattle.balkreyn.specs.{Came, HasNotFailed, IsFirstCut, Mark}
+use Rattle.balkreyn.proofs.Words.{All-append, All-cons, All-nil, append-nil, append_assoc, map-append}
 use Rattle.balkreyn.specs.declared.act.came.Came.TheVariants as came
-use Rattle.balkreyn.specs.Coming.{HasNotFailed, IsFirstCut}
 
 -- the first mark among them, or none: then all have values
 abbrev pub IsSoFar : {V E : Type 0} → List (Came V E) → List V → Option Mark → Type 0

@@ -4,3 +4,4 @@ mod Looked
 pub mod Shown
 mod Tried
 pub mod Waited
+mod Words

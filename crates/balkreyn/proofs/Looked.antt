@@ -1,26 +1,11 @@
 -- What was done by waits that look again and again.
-use Rattle.std.specs.Prelude.{◌≡◌, ◌+◌, ◌++◌, ◌∷◌, ℕ, List, [], length, remove, All, IsErrAnd, Contains, IfOk, Bool, Option, None, Some, Result, Ok, Err, MatchResult, is_some, true, false}
-use Rattle.std.proofs.Common.{◌∙◌, ap, arith, inl, inr, length-append, refl, subst, sym, true≢false}
-use Rattle.cancel_marks.specs.declared.marks.Mark.{Mark}
-use Rattle.scope_rules.specs.declared.types.refusals.Refusal.{Refusal}
-use Rattle.cancel_marks.specs.Seats.{Seen}
-use Rattle.balkreyn.specs.Coming.{IsCame, MayCome}
-use Rattle.balkreyn.specs.declared.act.came.Came.{Came}
+use Rattle.std.specs.Prelude.{[], ℕ, ◌++◌, ◌+◌, ◌∷◌, ◌≡◌, All, Bool, Contains, Err, IfOk, IsErrAnd, List, MatchResult, None, Ok, Option, Result, Some, false, is_some, length, remove, true}
+use Rattle.scope_rules.specs.declared.types.refusals.Refusal.TheVariants.{Unavailable}
+use Rattle.balkreyn.specs.{Came, CameTo, Completes, Fault, FindsDone, FindsNothing, FirstCame, Forked, ForkedInto, Gathers, Gave, GivesEach, IsCame, Joined, JoinsFrom, Looked, Maps, Mark, MayCome, Memory, Name, OfOutcome, Outcome}
+use Rattle.balkreyn.specs.{OwnerValue, Passes, Races, Refusal, Seen, SeesMore, SleptLast, SlotValue, Slots.Says, Staffs, StaffsAndAsks, TakesDone, Value, WaitsTurn, task_of}
+use Rattle.balkreyn.proofs.Words.{◌∙◌, All-append, All-cons, All-nil, ap, arith, inl, inr, length-append, refl, subst, sym, true≢false}
 use Rattle.balkreyn.specs.declared.act.came.Came.TheVariants as came
-use Rattle.share_ledger.specs.Values.{OwnerValue}
-use Rattle.realm_core.specs.Calls.{SeesMore}
-use Rattle.scope_rules.specs.declared.types.names.Name.{Name}
-use Rattle.std.proofs.lemmas.List.Elements.{All-append, All-cons, All-nil}
-use Rattle.balkreyn.specs.Slots.{Says, SlotValue, task_of}
-use Rattle.scope_rules.specs.declared.types.refusals.Refusal.TheVariants.{Memory, Unavailable}
-use Rattle.scope_rules.specs.declared.types.outcomes.Outcome.{Outcome}
 use Rattle.scope_rules.specs.declared.types.outcomes.Outcome.TheVariants as first
-use Rattle.scope_rules.specs.declared.types.values.Fault.{Fault}
-use Rattle.scope_rules.specs.declared.types.values.Value.{Value}
-use Rattle.realm_core.specs.declared.joins.Joined.{Joined}
-use Rattle.balkreyn.specs.Acting.{JoinsFrom}
-use Rattle.balkreyn.specs.Together.{CameTo, FindsNothing, FirstCame, Forked, ForkedInto, Gathers, Gave, GivesEach, Looked, Maps, OfOutcome, Races, Staffs, StaffsAndAsks}
-use Rattle.balkreyn.specs.Looking.{Completes, FindsDone, Passes, SleptLast, TakesDone, WaitsTurn}
 
 -- a token that has seen more, and then more, has seen more
 pub sees_on : (old mid new : OwnerValue) → SeesMore old mid → SeesMore mid new → SeesMore old new

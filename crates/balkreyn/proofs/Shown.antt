@@ -1,22 +1,8 @@
 -- What is written of a copy is written of the history that was copied.
-use Rattle.std.specs.Prelude.{◌≡◌, ℕ, List, Option, Result, String}
-use Rattle.std.proofs.Common.{◌∙◌, ap}
-use Rattle.scope_rules.specs.Cancels.{effective}
-use Rattle.scope_rules.specs.Table.{answering, until_check}
-use Rattle.scope_rules.specs.declared.types.answers.Effective.{Effective}
-use Rattle.scope_rules.specs.Ends.{EndValue, LabelValue}
-use Rattle.scope_rules.specs.declared.types.refusals.Refusal.{Refusal}
-use Rattle.scope_rules.specs.History.{History}
-use Rattle.share_ledger.specs.Steps.{history_of}
-use Rattle.share_ledger.specs.Values.{OwnerValue}
-use Rattle.realm_core.specs.Calls.{Reads, history_seen}
-use Rattle.realm_lock.specs.Looks.{IsSeen}
-use Rattle.balkreyn.specs.declared.times.Reached.{Reached}
-use Rattle.balkreyn.specs.declared.times.Times.{Times}
-use Rattle.balkreyn.specs.Acting.{RemainsNow, left_in}
-use Rattle.tree_dump.specs.Kept.{known_clock}
-use Rattle.balkreyn.specs.Looks.{IsCopyOf, SaysWaits}
-use Rattle.balkreyn.specs.Times.{HasReached, IsNoted, NotesNow, SaysAgesNow, SaysWhen, SaysWhenNow}
+use Rattle.std.specs.Prelude.{ℕ, ◌≡◌, List, Option, Result, String}
+use Rattle.balkreyn.specs.{Effective, EndValue, HasReached, History, IsCopyOf, IsNoted, IsSeen, LabelValue, NotesNow, OwnerValue, Reached, Reads, Refusal, RemainsNow, SaysAgesNow, SaysWaits, SaysWhen, SaysWhenNow, Words.Times}
+use Rattle.balkreyn.specs.{answering, effective, history_of, history_seen, known_clock, left_in, until_check}
+use Rattle.balkreyn.proofs.Words.{◌∙◌, ap}
 
 pub seen_so : (fits : LabelValue → EndValue → Type 0) (said told : History → Type 0) → ((h : History) → said h → told h) → IsSeen fits said → IsSeen fits told
 seen_so fits said told then it = record {

@@ -1,14 +1,7 @@
 -- Whatever a fork was answered, its job was forked.
-use Rattle.std.specs.Prelude.{◌≡◌, ℕ, Result, Ok, Err}
-use Rattle.std.proofs.Common.{refl, subst}
-use Rattle.scope_rules.specs.declared.types.answers.ForkReply.{ForkReply}
-use Rattle.scope_rules.specs.declared.types.names.Name.{Name}
-use Rattle.scope_rules.specs.Ends.{LabelValue}
-use Rattle.share_ledger.specs.Values.{OwnerValue}
-use Rattle.job_runner.specs.declared.forking.ForkRefusal.{ForkRefusal}
-use Rattle.job_runner.specs.Forks.{ForksJob, refusal_of, why_alone, why_of}
-use Rattle.balkreyn.specs.Slots.{label_of}
-use Rattle.balkreyn.specs.Turns.{Tries}
+use Rattle.std.specs.Prelude.{ℕ, ◌≡◌, Err, Ok, Result}
+use Rattle.balkreyn.specs.{ForkRefusal, ForkReply, ForksJob, LabelValue, Name, OwnerValue, Tries, label_of, refusal_of, why_alone, why_of}
+use Rattle.balkreyn.proofs.Words.{refl, subst}
 
 tried : {C J : Type 0} {old new : OwnerValue} {scope : ℕ} {name : Name} (result : Result ForkReply (ForkRefusal C J)) → ForksJob old new scope (label_of name) (why_alone result) → Tries old new scope name
 tried (Ok reply) forks = record { reply = Ok reply; forks = forks }

@@ -1,30 +1,9 @@
 -- What is done by a context that knows the realm's time: each wait reads a copy of its clock.
-use Rattle.std.specs.Prelude.{◌≡◌, ◌⊎◌, ℕ, ◌+◌, ◌-◌, ◌*◌, ◌^◌, ◌≤◌, min, Option, None, Some, IfSome, Result, Ok, Err, IsErrAnd}
-use Rattle.std.specs.Borrow.{MutBor}
-use Rattle.std.specs.Fn.{CalledWithState, Mut, Once}
-use Rattle.cancel_marks.specs.declared.marks.Mark.{Mark}
-use Rattle.cancel_marks.specs.Seats.{Seen}
-use Rattle.share_ledger.specs.Clocks.{IsAfter}
-use Rattle.scope_rules.specs.Cancels.{effective}
-use Rattle.scope_rules.specs.History.{History}
-use Rattle.scope_rules.specs.Table.{answering, until_check}
-use Rattle.scope_rules.specs.declared.types.answers.Effective.{Effective}
-use Rattle.scope_rules.specs.declared.types.answers.Effective.TheVariants.{At, Never, Past}
-use Rattle.scope_rules.specs.declared.types.events.Event.TheVariants.{Bind, Unbind}
-use Rattle.scope_rules.specs.declared.types.events.Expiry.{Expiry}
-use Rattle.scope_rules.specs.declared.types.events.Options.{Options}
-use Rattle.scope_rules.specs.declared.types.names.Name.{Name}
-use Rattle.scope_rules.specs.declared.types.refusals.Refusal.{Refusal}
-use Rattle.scope_rules.specs.declared.types.values.Value.{Value}
-use Rattle.share_ledger.specs.declared.steps.RealmStep.TheVariants.{Happened}
-use Rattle.share_ledger.specs.Values.{OwnerValue}
-use Rattle.realm_core.specs.Calls.{DoesOrMemory, history_seen}
-use Rattle.realm_core.specs.declared.joins.Joined.{Joined}
-use Rattle.realm_lock.specs.Waits.{HasCome, HasPassed, JoinsBy, Stopped, Waited, shown_in}
-use Rattle.job_runner.specs.Marks.{Shows}
-use Rattle.scope_rules.specs.declared.types.answers.Verdict.{Verdict}
+use Rattle.std.specs.Prelude.{ℕ, ◌*◌, ◌+◌, ◌-◌, ◌^◌, ◌≡◌, ◌≤◌, ◌⊎◌, Err, IfSome, IsErrAnd, None, Ok, Option, Result, Some, min}
+use Rattle.scope_rules.specs.declared.types.answers.Effective.TheVariants.{Never}
+use Rattle.balkreyn.specs.Words.{At, Backoff, Bind, CalledWithState, DoesOrMemory, Effective, Expiry, Happened, HasCome, HasPassed, History, IsAfter, Joined, JoinsBy, Mark, Mut, MutBor, Name, Once, Options, OwnerValue, Past}
+use Rattle.balkreyn.specs.Words.{Refusal, Seen, Shows, Stopped, Unbind, Value, Verdict, Waited, answering, effective, history_seen, shown_in, until_check}
 use Rattle.balkreyn.specs.Bodies.{ClosesFrom}
-use Rattle.balkreyn.specs.declared.act.blocks.Backoff.{Backoff}
 
 -- the clock was read, and the options have a deadline so many milliseconds later
 pub record IsSoAfter {K : Type 0} (reads : K → K → ℕ → Type 0) (start : K) (millis : ℕ) (expiry : Expiry) (options : Options) : Type 0 where

@@ -1,25 +1,11 @@
 -- What a body did that was run in a scope of its own: a scope that was opened for it, and closed behind it.
 -- Said is what was opened and closed, whichever way the body went, and what is answered. Of what the body did in
 -- between just what its own contract says; a closure without clauses has the one that is found from its code.
-use Rattle.std.specs.Prelude.{◌≡◌, ℕ, ◌⊎◌, Bool, true, false, None, Result, Ok, Err, IsOk, IsErrAnd}
-use Rattle.std.specs.Borrow.{MutBor}
-use Rattle.std.specs.Fn.{Once}
-use Rattle.scope_rules.specs.declared.types.answers.Verdict.{Verdict}
-use Rattle.scope_rules.specs.declared.types.answers.Verdict.TheVariants.{Plain, Violated}
+use Rattle.std.specs.Prelude.{ℕ, ◌≡◌, ◌⊎◌, Bool, Err, IsErrAnd, IsOk, None, Ok, Result, false, true}
+use Rattle.balkreyn.specs.Words.{ClosesBare, DoesInRoom, FoundUnsettled, Happened, IsOpenOf, MutBor, Once, Open, Options, OwnerValue, Plain, Policy, Refusal, SeesMore, StaysUnclosed, Verdict, Violated, WaitsToClose, history_seen}
+use Rattle.balkreyn.specs.Words.{next_scope}
 use Rattle.scope_rules.specs.declared.types.answers.Verdict.TheVariants as how
-use Rattle.scope_rules.specs.declared.types.events.Event.TheVariants.{Open}
-use Rattle.scope_rules.specs.declared.types.events.Options.{Options}
-use Rattle.scope_rules.specs.declared.types.joiners.Policy.{Policy}
-use Rattle.scope_rules.specs.declared.types.refusals.Refusal.{Refusal}
 use Rattle.scope_rules.specs.declared.types.refusals.Refusal.TheVariants as refused
-use Rattle.scope_rules.specs.Replies.{next_scope}
-use Rattle.share_ledger.specs.declared.steps.RealmStep.TheVariants.{Happened}
-use Rattle.share_ledger.specs.Values.{OwnerValue}
-use Rattle.realm_core.specs.Calls.{SeesMore, history_seen}
-use Rattle.realm_core.specs.Closes.{ClosesBare}
-use Rattle.realm_core.specs.Waiting.{FoundUnsettled, IsOpenOf}
-use Rattle.realm_lock.specs.Waits.{StaysUnclosed, WaitsToClose}
-use Rattle.job_runner.specs.Rooms.{DoesInRoom}
 
 -- what an open with such a joiner and such options did, and answered: in the history that the token has seen, and
 -- `leaves` says what of the rest of its context; nothing else of the token has changed

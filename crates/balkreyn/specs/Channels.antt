@@ -1,17 +1,9 @@
 -- What a send into a channel and a receive from it do.
-use Rattle.std.specs.Prelude.{◌≡◌, ◌⊎◌, Bool, true, false, Option, Some, Result, Ok, Err, IsErrAnd}
-use Rattle.std.specs.Borrow.{MutBor}
-use Rattle.std.specs.Fn.{CalledWithState, Mut}
-use Rattle.cancel_marks.specs.declared.marks.Mark.{Mark}
-use Rattle.scope_rules.specs.declared.types.refusals.Refusal.{Refusal}
-use Rattle.share_ledger.specs.Values.{OwnerValue}
-use Rattle.realm_core.specs.Calls.{SeesMore}
+use Rattle.std.specs.Prelude.{◌≡◌, ◌⊎◌, Bool, Err, IsErrAnd, Ok, Option, Result, Some, false, true}
+use Rattle.balkreyn.specs.Words.{CalledWithState, Mark, Mut, MutBor, OwnerValue, Put, Received, Refusal, SeesMore, Sent}
 use Rattle.balkreyn.specs.Looking.{SleptLast}
-use Rattle.balkreyn.specs.declared.act.channels.Put.{Put}
 use Rattle.balkreyn.specs.declared.act.channels.Put.TheVariants as put
-use Rattle.balkreyn.specs.declared.act.channels.Received.{Received}
 use Rattle.balkreyn.specs.declared.act.channels.Received.TheVariants as received
-use Rattle.balkreyn.specs.declared.act.channels.Sent.{Sent}
 use Rattle.balkreyn.specs.declared.act.channels.Sent.TheVariants as sent
 
 -- a value that was not put comes back

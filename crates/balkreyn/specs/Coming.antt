@@ -1,9 +1,7 @@
 -- What became of what was asked for.
-use Rattle.std.specs.Prelude.{◌≡◌, ◌⊎◌, ◌++◌, ◌∷◌, All, List, Option, None, Some, Result, Ok, Err, IsErrAnd, map}
-use Rattle.cancel_marks.specs.declared.marks.Mark.{Mark}
-use Rattle.scope_rules.specs.declared.types.refusals.Refusal.{Refusal}
+use Rattle.std.specs.Prelude.{◌++◌, ◌∷◌, ◌≡◌, ◌⊎◌, All, Err, IsErrAnd, List, None, Ok, Option, Result, Some, map}
 use Rattle.scope_rules.specs.declared.types.refusals.Refusal.TheVariants.{Unavailable}
-use Rattle.balkreyn.specs.declared.act.came.Came.{Came}
+use Rattle.balkreyn.specs.Words.{Came, Mark, Refusal}
 use Rattle.balkreyn.specs.declared.act.came.Came.TheVariants as came
 
 -- the value, if it came

@@ -1,26 +1,10 @@
 -- Waits that look again and again, and sleep between two looks.
-use Rattle.std.specs.Prelude.{◌≡◌, ◌⊎◌, ◌<◌, ℕ, Bool, true, false, List, length, remove, slice_index_or, Option, None, Some, Result, Ok, Err, IsErrAnd, IsOk}
-use Rattle.std.specs.Borrow.{MutBor}
-use Rattle.std.specs.Fn.{Once}
-use Rattle.cancel_marks.specs.declared.marks.Mark.{Mark}
-use Rattle.scope_rules.specs.Ends.{EndValue}
-use Rattle.scope_rules.specs.Checks.{task_check}
-use Rattle.scope_rules.specs.Table.{answering}
-use Rattle.scope_rules.specs.Tasks.{state}
-use Rattle.scope_rules.specs.declared.types.answers.Cancelling.{Cancelling}
-use Rattle.scope_rules.specs.declared.types.answers.State.{State}
-use Rattle.scope_rules.specs.declared.types.answers.State.TheVariants.{Failed, Success, Unavailable}
-use Rattle.scope_rules.specs.declared.types.events.Event.TheVariants.{Cancel}
-use Rattle.scope_rules.specs.declared.types.names.Name.{Name}
-use Rattle.scope_rules.specs.declared.types.refusals.Refusal.{Refusal}
-use Rattle.scope_rules.specs.declared.types.refusals.Refusal.TheVariants.{Memory}
+use Rattle.std.specs.Prelude.{ℕ, ◌<◌, ◌≡◌, ◌⊎◌, Bool, Err, IsErrAnd, IsOk, List, None, Ok, Option, Result, Some, false, length, remove, slice_index_or, true}
+use Rattle.scope_rules.specs.declared.types.answers.State.TheVariants.{Failed, Unavailable}
+use Rattle.balkreyn.specs.Words.{Came, Cancel, Cancelling, EndValue, Mark, Memory, MutBor, Name, Once, OwnerValue, Reads, RecordsOrMemory, Refusal, SeesMore, State, Success, answering, state, task_check}
+use Rattle.balkreyn.specs.{Acting.RanBound, Slots.SlotValue, Slots.task_of}
 use Rattle.scope_rules.specs.declared.types.refusals.Refusal.TheVariants as refused
-use Rattle.balkreyn.specs.declared.act.came.Came.{Came}
 use Rattle.balkreyn.specs.declared.act.came.Came.TheVariants as came
-use Rattle.share_ledger.specs.Values.{OwnerValue}
-use Rattle.realm_core.specs.Calls.{Reads, RecordsOrMemory, SeesMore}
-use Rattle.balkreyn.specs.Acting.{RanBound}
-use Rattle.balkreyn.specs.Slots.{SlotValue, task_of}
 
 -- from the call's begin on the token has only seen more, and last of all the actor slept, which was answered so
 pub record SleptLast {X : Type 0} (token : X → OwnerValue) (sleeps : X → X → Result (Option Mark) Refusal → Type 0) (old new : X) (slept : Result (Option Mark) Refusal) : Type 0 where

@@ -1,12 +1,6 @@
 -- What is written of a realm's history, once that was copied out of it.
-use Rattle.std.specs.Prelude.{◌≡◌, ℕ, List, MatchResult, Result, String, string_bytes}
-use Rattle.scope_rules.specs.declared.types.refusals.Refusal.{Refusal}
-use Rattle.scope_rules.specs.declared.types.refusals.Refusal.TheVariants.{Memory}
-use Rattle.scope_rules.specs.History.{History}
-use Rattle.tree_dump.specs.Ages.{Clock}
-use Rattle.tree_dump.specs.TextTree.{tree_by}
-use Rattle.tree_dump.specs.Waits.{with_waits}
-use Rattle.tree_dump.specs.declared.waits.Waits.{Waits}
+use Rattle.std.specs.Prelude.{ℕ, ◌≡◌, List, MatchResult, Result, String, string_bytes}
+use Rattle.balkreyn.specs.Words.{Clock, History, Memory, Refusal, Waits, tree_by, with_waits}
 
 -- it is a copy of just this history; or there was no memory for one
 abbrev pub IsCopyOf : History → Result History Refusal → Type 0

@@ -1,7 +1,6 @@
 -- A name that is written in the source.
-use Rattle.std.specs.Prelude.{ℕ, Bool, ◌&&◌, nat_le, List, length}
-use Rattle.std.specs.List.{list_all}
-use Rattle.scope_rules.specs.NameText.{begins_with_letter, is_inner}
+use Rattle.std.specs.Prelude.{ℕ, ◌&&◌, Bool, List, length, nat_le}
+use Rattle.balkreyn.specs.Words.{begins_with_letter, is_inner, list_all}
 
 -- the text is a name, as `is_name` says, in a form that the check computes of a literal by itself
 abbrev pub is_written : List ℕ → Bool

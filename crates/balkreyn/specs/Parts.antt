@@ -1,8 +1,7 @@
 -- What is run for a service.
 use Rattle.std.specs.Prelude.{◌⊎◌, IsErr, IsOk}
-use Rattle.scope_rules.specs.Ends.{EndValue}
-use Rattle.balkreyn.specs.declared.act.tasks.Part.{Part}
-use Rattle.balkreyn.specs.declared.act.tasks.Part.TheVariants.{Own, Request, Stop, Watch}
+use Rattle.balkreyn.specs.Words.{EndValue}
+use Rattle.balkreyn.specs.declared.act.tasks.Part.{Part, TheVariants.Own, TheVariants.Request, TheVariants.Stop, TheVariants.Watch}
 
 -- a request ends as its job may, or it fails
 abbrev pub AsksEnd : {W : Type 0} → (W → EndValue → Type 0) → W → EndValue → Type 0

@@ -1,9 +1,6 @@
 -- How much of a realm's room requests take.
-use Rattle.std.specs.Prelude.{ℕ, ◌+◌, ◌-◌, ◌*◌, ◌≤◌, false, true}
-use Rattle.scope_rules.specs.declared.types.capacity.Limits.{Limits}
-use Rattle.scope_rules.specs.declared.types.capacity.TheConstants.{OPEN_LOAD, FORK_LOAD, STEP_LOAD}
-use Rattle.balkreyn.specs.declared.act.rooms.Need.{Need}
-use Rattle.balkreyn.specs.declared.act.rooms.Room.{Room}
+use Rattle.std.specs.Prelude.{ℕ, ◌*◌, ◌+◌, ◌-◌, ◌≤◌, false, true}
+use Rattle.balkreyn.specs.Words.{FORK_LOAD, Limits, Need, OPEN_LOAD, Room, STEP_LOAD}
 
 -- the load of all that is needed
 abbrev pub load_of : Need → ℕ

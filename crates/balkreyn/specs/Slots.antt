@@ -1,16 +1,7 @@
 -- Results of a caller's own type: what is promised of one, and what a slot gives up.
-use Rattle.std.specs.Prelude.{◌≡◌, ℕ, None, Result, Ok, Err}
-use Rattle.scope_rules.specs.declared.types.answers.ForkReply.{ForkReply}
-use Rattle.scope_rules.specs.declared.types.answers.ForkReply.TheVariants.{Thread, Never}
-use Rattle.scope_rules.specs.declared.types.names.Name.{Name}
-use Rattle.scope_rules.specs.declared.types.refusals.Refusal.{Refusal}
-use Rattle.scope_rules.specs.declared.types.refusals.Refusal.TheVariants.{NotSuccess, Unavailable}
-use Rattle.scope_rules.specs.declared.types.values.Value.{Value}
-use Rattle.scope_rules.specs.Ends.{LabelValue}
-use Rattle.scope_rules.specs.Replies.{result_reply}
-use Rattle.share_ledger.specs.Values.{OwnerValue}
-use Rattle.realm_core.specs.Calls.{Reads}
-use Rattle.job_runner.specs.Forks.{ForkWhy, ForksJob, refusal_of}
+use Rattle.std.specs.Prelude.{ℕ, ◌≡◌, Err, None, Ok, Result}
+use Rattle.scope_rules.specs.declared.types.{answers.ForkReply.TheVariants.Never, refusals.Refusal.TheVariants.Unavailable}
+use Rattle.balkreyn.specs.Words.{ForkReply, ForkWhy, ForksJob, LabelValue, Name, NotSuccess, OwnerValue, Reads, Refusal, Thread, Value, refusal_of, result_reply}
 
 -- a job with a result of its own type, under its name
 pub record NamedValue (J : Type 0) : Type 0 where

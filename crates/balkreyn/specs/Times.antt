@@ -1,14 +1,7 @@
 -- When the events of a history happened, by the looks that found them, and what says so.
-use Rattle.std.specs.Prelude.{◌≡◌, ◌++◌, ◌-◌, ◌==◌, ◌&&◌, ◌∷◌, ℕ, nat_le, Bool, cond, List, [], length, replicate, slice_get, Option, None, MatchResult, Result, String, string_bytes}
-use Rattle.scope_rules.specs.declared.types.refusals.Refusal.{Refusal}
-use Rattle.scope_rules.specs.declared.types.refusals.Refusal.TheVariants.{Memory}
-use Rattle.scope_rules.specs.History.{History}
-use Rattle.script_journal.specs.Script.{script_text}
-use Rattle.script_journal.specs.Timed.{WithTimes, timed_text}
-use Rattle.tree_dump.specs.Kept.{known_clock}
+use Rattle.std.specs.Prelude.{[], ℕ, ◌&&◌, ◌++◌, ◌-◌, ◌==◌, ◌∷◌, ◌≡◌, Bool, List, MatchResult, None, Option, Result, String, cond, length, nat_le, replicate, slice_get, string_bytes}
+use Rattle.balkreyn.specs.Words.{History, Memory, Reached, Refusal, Times, WithTimes, known_clock, script_text, timed_text}
 use Rattle.balkreyn.specs.Looks.{SaysWaits}
-use Rattle.balkreyn.specs.declared.times.Reached.{Reached}
-use Rattle.balkreyn.specs.declared.times.Times.{Times}
 
 -- it is the script of the history with these times, and so the script itself but for comments; or there was no memory
 abbrev pub SaysWhen : {Z : Type 0} → History → List ℕ → ℕ → Result (String Z) Refusal → Type 0

@@ -1,24 +1,8 @@
 -- Many jobs in a scope of their own.
-use Rattle.std.specs.Prelude.{◌≡◌, ◌⊎◌, ◌+◌, ◌<◌, ◌++◌, ◌∷◌, ℕ, List, [], All, length, slice_index_or, Contains, Option, None, Some, Result, Ok, Err}
-use Rattle.scope_rules.specs.declared.types.answers.ForkReply.{ForkReply}
-use Rattle.scope_rules.specs.declared.types.answers.Verdict.{Verdict}
-use Rattle.scope_rules.specs.declared.types.names.Name.{Name}
-use Rattle.scope_rules.specs.declared.types.outcomes.Outcome.{Outcome}
-use Rattle.scope_rules.specs.declared.types.outcomes.Outcome.TheVariants.{Any, Failed}
-use Rattle.scope_rules.specs.declared.types.refusals.Refusal.{Refusal}
-use Rattle.scope_rules.specs.declared.types.refusals.Refusal.TheVariants.{Memory}
-use Rattle.share_ledger.specs.Values.{OwnerValue}
-use Rattle.cancel_marks.specs.declared.marks.Mark.{Mark}
-use Rattle.cancel_marks.specs.Seats.{Seen}
-use Rattle.job_runner.specs.Marks.{Shows}
-use Rattle.realm_core.specs.Calls.{SeesMore}
-use Rattle.realm_core.specs.declared.joins.Joined.{Joined}
-use Rattle.balkreyn.specs.Acting.{JoinsFrom}
-use Rattle.balkreyn.specs.Bodies.{Settles, StaysOut}
-use Rattle.balkreyn.specs.Slots.{ForksInto, ForksUnder, Says, SlotValue, task_of}
-use Rattle.balkreyn.specs.Coming.{IsCame, MayCome}
-use Rattle.balkreyn.specs.declared.act.came.Came.{Came}
-use Rattle.balkreyn.specs.declared.act.came.Came.TheVariants.{Cut}
+use Rattle.std.specs.Prelude.{[], ℕ, ◌++◌, ◌+◌, ◌<◌, ◌∷◌, ◌≡◌, ◌⊎◌, All, Contains, Err, List, None, Ok, Option, Result, Some, length, slice_index_or}
+use Rattle.scope_rules.specs.declared.types.outcomes.Outcome.TheVariants.{Failed}
+use Rattle.balkreyn.specs.Words.{Any, Came, Cut, ForkReply, Joined, Mark, Memory, Name, Outcome, OwnerValue, Refusal, Seen, SeesMore, Shows, Verdict}
+use Rattle.balkreyn.specs.{Acting.JoinsFrom, Bodies.Settles, Bodies.StaysOut, Coming.IsCame, Coming.MayCome, Slots.ForksInto, Slots.ForksUnder, Slots.Says, Slots.SlotValue, Slots.task_of}
 
 -- a scope was opened, then jobs ran in it so, by which this was found, and last the scope was closed, whatever was found
 pub record RunsInScope {X V : Type 0} (opens : X → X → Result ℕ Refusal → Type 0) (closes : X → X → ℕ → Result Verdict Refusal → Type 0) (runs : ℕ → X → X → Result V Refusal → Type 0) (old new : X) (result : Result V Refusal) : Type 0 where

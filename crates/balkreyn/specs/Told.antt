@@ -1,14 +1,6 @@
 -- Which cancels a task reports.
-use Rattle.std.specs.Prelude.{◌≡◌, ◌&&◌, ℕ, Bool, Option, None, Some, nat_lt, false, true}
-use Rattle.std.specs.List.{Contains}
-use Rattle.scope_rules.specs.declared.types.answers.Cause.{Cause}
-use Rattle.scope_rules.specs.declared.types.answers.CauseKind.{CauseKind}
-use Rattle.scope_rules.specs.declared.types.answers.CauseKind.TheVariants.{Call, Close, Deadline, Joiner}
-use Rattle.scope_rules.specs.declared.types.outcomes.Outcome.{Outcome}
-use Rattle.scope_rules.specs.declared.types.outcomes.Outcome.TheVariants.{All, Done, Empty}
-use Rattle.balkreyn.specs.declared.act.hooks.Happening.{Happening}
-use Rattle.balkreyn.specs.declared.act.hooks.Happening.TheVariants.{Cancelled}
-use Rattle.balkreyn.specs.declared.act.told.Told.{Told}
+use Rattle.std.specs.Prelude.{ℕ, ◌&&◌, ◌≡◌, Bool, None, Option, Some, false, nat_lt, true}
+use Rattle.balkreyn.specs.Words.{All, Call, Cancelled, Cause, CauseKind, Close, Contains, Deadline, Done, Empty, Happening, Joiner, Outcome, Told}
 
 -- whether the scope was opened by a task that was forked in this one: by main, which was forked in none, all that it can
 -- see, and by another those that are later

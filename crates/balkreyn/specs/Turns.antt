@@ -1,12 +1,6 @@
 -- What an owner does with a request, and what two owners hand to each other.
-use Rattle.std.specs.Prelude.{◌≡◌, ℕ, Result}
-use Rattle.scope_rules.specs.declared.types.answers.ForkReply.{ForkReply}
-use Rattle.scope_rules.specs.declared.types.answers.ForkReply.TheVariants.{Thread}
-use Rattle.scope_rules.specs.declared.types.names.Name.{Name}
-use Rattle.scope_rules.specs.declared.types.refusals.Refusal.{Refusal}
-use Rattle.share_ledger.specs.Values.{OwnerValue}
-use Rattle.balkreyn.specs.declared.act.baton.Side.{Side}
-use Rattle.balkreyn.specs.declared.act.baton.Side.TheVariants.{First, Second}
+use Rattle.std.specs.Prelude.{ℕ, ◌≡◌, Result}
+use Rattle.balkreyn.specs.Words.{First, ForkReply, Name, OwnerValue, Refusal, Second, Side, Thread}
 use Rattle.balkreyn.specs.Slots.{ForksUnder}
 
 -- the other of the two realms

@@ -1,12 +1,6 @@
 //! What is seen of a realm, by an actor's token.
 ghost use Rattle.std.specs.Prelude.{◌≡◌};
-ghost use Rattle.script_journal.specs.Script.{script_text};
-ghost use Rattle.tree_dump.specs.Tree.{dump_text};
-ghost use Rattle.tree_dump.specs.Kept.{known_clock};
-ghost use Rattle.tree_dump.specs.TextTree.{tree_by, tree_text};
-ghost use Rattle.realm_core.specs.Calls.{Reads};
-ghost use Rattle.balkreyn.specs.Looks.{Says};
-ghost use Rattle.balkreyn.specs.Times.{HasReached, SaysWhen};
+ghost use Rattle.balkreyn.specs.{HasReached, Looks.Says, Reads, SaysWhen, dump_text, known_clock, script_text, tree_by, tree_text};
 
 use crate::copies::{CopyOut, dump_in, journal_in, timed_in, timed_tree_in, tree_in};
 use crate::times::{Counting, Reached, Times};

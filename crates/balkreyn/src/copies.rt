@@ -1,14 +1,6 @@
 //! A realm's history, copied out of it, and what is written of that.
 ghost use Rattle.std.specs.Prelude.{◌≡◌, MatchResult};
-ghost use Rattle.scope_rules.specs.declared.types.refusals.Refusal.TheVariants.{Memory};
-ghost use Rattle.scope_rules.specs.History.{History};
-ghost use Rattle.script_journal.specs.Script.{script_text};
-ghost use Rattle.tree_dump.specs.Tree.{dump_text};
-ghost use Rattle.tree_dump.specs.Ages.{no_clock};
-ghost use Rattle.tree_dump.specs.Kept.{known_clock};
-ghost use Rattle.tree_dump.specs.TextTree.{tree_by, tree_text};
-ghost use Rattle.balkreyn.specs.Looks.{IsCopyOf, Says, SaysWaits};
-ghost use Rattle.balkreyn.specs.Times.{SaysWhen};
+ghost use Rattle.balkreyn.specs.{History, IsCopyOf, Looks.Says, Memory, SaysWaits, SaysWhen, dump_text, known_clock, no_clock, script_text, tree_by, tree_text};
 
 use crate::act::current::CurrentWaits;
 use crate::times::Times;

@@ -1,6 +1,6 @@
 //! What a service may fail with beside a refusal.
 ghost use Rattle.std.specs.Prelude.{◌≡◌};
-ghost use Rattle.scope_rules.specs.declared.types.refusals.Refusal.TheVariants.{Memory};
+ghost use Rattle.balkreyn.specs.{Memory};
 ghost use Rattle.balkreyn.specs.declared.errors.ServiceError.TheVariants as failed;
 
 use scope_rules::Refusal;

@@ -1,8 +1,6 @@
 //! A fork that `?` passes through.
 ghost use Rattle.std.specs.Prelude.{◌≡◌, IfOk};
-ghost use Rattle.realm_core.specs.Calls.{SeesMore};
-ghost use Rattle.job_runner.specs.Forks.{KeepsThread};
-ghost use Rattle.balkreyn.specs.Slots.{ForksUnder, label_of};
+ghost use Rattle.balkreyn.specs.{ForksUnder, KeepsThread, SeesMore, label_of};
 
 use crate::aliases::CanFork;
 use job_runner::{Answers, NamedJob, TaskCtx};

@@ -1,20 +1,7 @@
 //! A scope that can't be forgotten.
 ghost use Rattle.std.specs.Prelude.{◌≡◌, ◌⊎◌, Err, IfErr, IfOk, IsOk, MatchResult, None};
-ghost use Rattle.scope_rules.specs.declared.types.refusals.Refusal.TheVariants.{Memory, NotReady};
-ghost use Rattle.scope_rules.specs.Replies.{next_scope};
-ghost use Rattle.join_rules.specs.Joiners.{policy_of};
-ghost use Rattle.realm_state.specs.Fits.{Fitting};
-ghost use Rattle.realm_core.specs.Calls.{SeesMore, history_seen};
-ghost use Rattle.realm_core.specs.Views.{Joins, JoinsBare};
-ghost use Rattle.realm_core.specs.Closes.{ClosesBare};
-ghost use Rattle.realm_core.specs.Waiting.{FoundUnsettled, IsOpenOf};
-ghost use Rattle.realm_lock.specs.Waits.{ClosesAfter, JoinsBy, StaysUnclosed, StopsClosing};
-ghost use Rattle.balkreyn.specs.Bodies.{ClosesBy};
-ghost use Rattle.thread_pool.specs.Teams.{AreGone};
-ghost use Rattle.job_runner.specs.Forks.{ForksJob, KeepsThread, job_of, why_alone};
-ghost use Rattle.job_runner.specs.Lists.{ListsBelow, ListsOne};
-ghost use Rattle.job_runner.specs.Reports.{ClosesHere, StaysHere};
-ghost use Rattle.job_runner.specs.Rooms.{DoesInRoom};
+ghost use Rattle.balkreyn.specs.{AreGone, ClosesAfter, ClosesBare, ClosesBy, ClosesHere, DoesInRoom, Fitting, ForksJob, FoundUnsettled, IsOpenOf, Joins, JoinsBare, JoinsBy, KeepsThread, ListsBelow, ListsOne, Memory, NotReady};
+ghost use Rattle.balkreyn.specs.{SeesMore, StaysHere, StaysUnclosed, StopsClosing, history_seen, job_of, next_scope, policy_of, why_alone};
 
 use crate::aliases::CanFork;
 use crate::scoped::close_in_time;

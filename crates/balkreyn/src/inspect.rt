@@ -1,10 +1,5 @@
 //! What is seen of a realm, without a token.
-ghost use Rattle.script_journal.specs.Script.{script_text};
-ghost use Rattle.tree_dump.specs.Tree.{dump_text};
-ghost use Rattle.tree_dump.specs.TextTree.{tree_text};
-ghost use Rattle.realm_lock.specs.Looks.{IsSeen};
-ghost use Rattle.balkreyn.specs.Looks.{Says};
-ghost use Rattle.balkreyn.specs.Times.{HasReached, SaysWhen};
+ghost use Rattle.balkreyn.specs.{HasReached, IsSeen, Looks.Says, SaysWhen, dump_text, script_text, tree_text};
 
 use crate::copies::{CopyOut, dump_in, journal_in, timed_in, tree_in};
 use crate::times::{Counting, Reached, Times};

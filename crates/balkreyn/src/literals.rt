@@ -1,7 +1,6 @@
 //! Names that are written in the source.
 ghost use Rattle.std.specs.Prelude.{◌≡◌, IsTrue};
-ghost use Rattle.scope_rules.specs.Names.{text_of};
-ghost use Rattle.balkreyn.specs.Names.{is_written};
+ghost use Rattle.balkreyn.specs.{is_written, text_of};
 
 use scope_rules::Name;
 

@@ -1,11 +1,6 @@
 //! A body that runs in a scope of its own.
 ghost use Rattle.std.specs.Prelude.{◌≡◌, IsOk, MatchResult, Ok, true};
-ghost use Rattle.join_rules.specs.Joiners.{policy_of};
-ghost use Rattle.realm_core.specs.Calls.{SeesMore, history_seen};
-ghost use Rattle.realm_core.specs.Waiting.{IsOpenOf};
-ghost use Rattle.thread_pool.specs.Teams.{AreGone};
-ghost use Rattle.job_runner.specs.Lists.{ListsBelow};
-ghost use Rattle.balkreyn.specs.Bodies.{Closes, ClosesBy, ClosesFrom, Opens, RunsWithin, SettlesOwing};
+ghost use Rattle.balkreyn.specs.{AreGone, Closes, ClosesBy, ClosesFrom, IsOpenOf, ListsBelow, Opens, RunsWithin, SeesMore, SettlesOwing, history_seen, policy_of};
 
 use job_runner::{Clock, TaskCtx};
 use join_rules::Joiner;

@@ -1,8 +1,6 @@
 //! From the fork of a typed job to the slot that gives its value up.
 ghost use Rattle.std.specs.Prelude.{◌≡◌, IfOk};
-ghost use Rattle.realm_core.specs.Calls.{SeesMore};
-ghost use Rattle.job_runner.specs.Forks.{KeepsThread};
-ghost use Rattle.balkreyn.specs.Slots.{ForksInto, Takes, label_of, task_of};
+ghost use Rattle.balkreyn.specs.{ForksInto, KeepsThread, SeesMore, Takes, label_of, task_of};
 
 use crate::jobs::{Typed, Yields};
 use crate::places::{JobShare, Place};

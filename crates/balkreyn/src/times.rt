@@ -1,6 +1,6 @@
 //! When events happened, as looks at a realm found them.
-ghost use Rattle.std.specs.Prelude.{◌≡◌, [], ◌-◌, option_map};
-ghost use Rattle.balkreyn.specs.Times.{IsNoted, last_time};
+ghost use Rattle.std.specs.Prelude.{[], ◌-◌, ◌≡◌, option_map};
+ghost use Rattle.balkreyn.specs.{IsNoted, last_time};
 
 use realm_lock::{Look, RealmState};
 use scope_rules::{Refusal, ScopeId, TaskId};

@@ -1,6 +1,6 @@
 //! A request as a job: within its deadline, with its permit.
 ghost use Rattle.std.specs.Prelude.{◌≡◌, IsErr};
-ghost use Rattle.balkreyn.specs.Parts.{AsksEnd};
+ghost use Rattle.balkreyn.specs.{AsksEnd};
 
 use crate::act::blocks::entered;
 use crate::act::contexts::Acts;

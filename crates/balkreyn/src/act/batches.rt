@@ -1,13 +1,8 @@
 //! Many typed jobs, of which so many run at a time.
 ghost use Rattle.std.specs.Prelude.{◌≡◌, ◌⊎◌, All, Err, IfOk, MatchResult, length, max, pos};
-ghost use Rattle.balkreyn.specs.Coming.{MayCome};
+ghost use Rattle.balkreyn.specs.{ClosesNow, Forked, GivesEach, Maps, MayCome, Memory, Opens, RunsJobs, StopsStaffing, arc_value};
 ghost use Rattle.scope_rules.specs.declared.types.joiners.Policy.TheVariants as policy;
-ghost use Rattle.scope_rules.specs.declared.types.refusals.Refusal.TheVariants.{Memory};
 ghost use Rattle.scope_rules.specs.declared.types.values.Value.TheVariants as value;
-ghost use Rattle.std.specs.Arc.{arc_value};
-ghost use Rattle.balkreyn.specs.Acting.{ClosesNow};
-ghost use Rattle.balkreyn.specs.Bodies.{Opens};
-ghost use Rattle.balkreyn.specs.Together.{Forked, GivesEach, Maps, RunsJobs, StopsStaffing};
 
 use crate::act::blocks::entered;
 use crate::act::came::{Came, came_of};

@@ -1,6 +1,6 @@
 //! What two owners hand to each other.
-ghost use Rattle.std.specs.Prelude.{◌≡◌, ◌⊎◌, ◌↔◌, ◌<◌, IsTrue};
-ghost use Rattle.balkreyn.specs.Turns.{other_side};
+ghost use Rattle.std.specs.Prelude.{◌<◌, ◌↔◌, ◌≡◌, ◌⊎◌, IsTrue};
+ghost use Rattle.balkreyn.specs.{other_side};
 ghost use Rattle.balkreyn.specs.declared.act.baton.Place.TheVariants as place;
 
 use crate::act::intake::Intake;

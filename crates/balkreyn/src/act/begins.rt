@@ -1,8 +1,6 @@
 //! What the owner of a realm that serves requests does by its context, beside what all do by theirs.
 ghost use Rattle.std.specs.Prelude.{◌≡◌};
-ghost use Rattle.realm_core.specs.Calls.{SeesMore};
-ghost use Rattle.balkreyn.specs.Slots.{ForksUnder};
-ghost use Rattle.balkreyn.specs.Turns.{Tries};
+ghost use Rattle.balkreyn.specs.{ForksUnder, SeesMore, Tries};
 
 use crate::act::asking::Asking;
 use crate::act::contexts::Cx;

@@ -1,10 +1,7 @@
 //! Bodies that run in a scope, under a shield or with a binding, by one value.
 ghost use Rattle.std.specs.Prelude.{◌≡◌, None, true};
-ghost use Rattle.join_rules.specs.Joiners.{policy_of};
-ghost use Rattle.scope_rules.specs.declared.types.events.Expiry.TheVariants.{Fail};
+ghost use Rattle.balkreyn.specs.{ClosesNow, Fail, Opens, Retries, RunsBound, RunsWithin, Sleeps, policy_of};
 ghost use Rattle.scope_rules.specs.declared.types.joiners.Policy.TheVariants as policy;
-ghost use Rattle.balkreyn.specs.Acting.{ClosesNow, Retries, RunsBound, Sleeps};
-ghost use Rattle.balkreyn.specs.Bodies.{Opens, RunsWithin};
 
 use crate::act::contexts::Acts;
 use crate::scoped::settled;

@@ -1,7 +1,6 @@
 //! What became of what was asked for.
 ghost use Rattle.std.specs.Prelude.{◌≡◌, MatchResult};
-ghost use Rattle.scope_rules.specs.declared.types.refusals.Refusal.TheVariants.{Memory};
-ghost use Rattle.balkreyn.specs.Coming.{AllCame, IsCame, IsResultOf, came_value};
+ghost use Rattle.balkreyn.specs.{AllCame, IsCame, IsResultOf, Memory, came_value};
 
 use realm_lock::Mark;
 use scope_rules::Refusal;

@@ -1,8 +1,6 @@
 //! Channels between jobs, whose waits a cancel and a deadline end.
 ghost use Rattle.std.specs.Prelude.{◌≡◌, MatchResult};
-ghost use Rattle.balkreyn.specs.Acting.{Pauses};
-ghost use Rattle.balkreyn.specs.Channels.{HandsBack, Receives, Sends};
-ghost use Rattle.balkreyn.specs.Looking.{SleptLast};
+ghost use Rattle.balkreyn.specs.{HandsBack, Pauses, Receives, Sends, SleptLast};
 
 use crate::act::contexts::Acts;
 use crate::act::locked::{Hears, Locked};

@@ -1,9 +1,6 @@
 //! One value to act by: a task's context with the realm's time.
 ghost use Rattle.std.specs.Prelude.{◌≡◌};
-ghost use Rattle.realm_core.specs.Calls.{SeesMore};
-ghost use Rattle.job_runner.specs.Marks.{Shows, seat_here};
-ghost use Rattle.balkreyn.specs.Acting.{left_in};
-ghost use Rattle.balkreyn.specs.Slots.{ForksUnder};
+ghost use Rattle.balkreyn.specs.{ForksUnder, SeesMore, Shows, left_in, seat_here};
 
 use crate::act::frames::Frames;
 use crate::act::hooks::{Happening, Observes, Shares};

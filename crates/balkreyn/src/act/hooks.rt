@@ -1,8 +1,7 @@
 //! What a service is run with beside its threads: who observes it, what it may have at hand, and its stop.
 
-ghost use Rattle.std.specs.Arc.{arc_value};
-ghost use Rattle.std.specs.Prelude.{◌≡◌, ◌<◌, IfOk, IfSome, IsSomeAnd, MatchResult, option_map};
-ghost use Rattle.scope_rules.specs.declared.types.refusals.Refusal.TheVariants.{Memory};
+ghost use Rattle.std.specs.Prelude.{◌<◌, ◌≡◌, IfOk, IfSome, IsSomeAnd, MatchResult, option_map};
+ghost use Rattle.balkreyn.specs.{Memory, arc_value};
 
 use crate::act::current::CurrentWaits;
 use crate::act::requests::Lost;

@@ -1,6 +1,6 @@
 //! The request that a service took from its source, and that no realm had room for yet.
 ghost use Rattle.std.specs.Prelude.{◌≡◌, IsNone, IsSomeAnd, option_map};
-ghost use Rattle.balkreyn.specs.Turns.{IsThread};
+ghost use Rattle.balkreyn.specs.{IsThread};
 
 use scope_rules::{ForkReply, Name};
 

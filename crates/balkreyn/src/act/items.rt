@@ -1,6 +1,5 @@
 //! A body that is called with each value of a channel.
-ghost use Rattle.balkreyn.specs.Acting.{Pauses};
-ghost use Rattle.balkreyn.specs.Channels.{Receives, ReceivesEach};
+ghost use Rattle.balkreyn.specs.{Pauses, Receives, ReceivesEach};
 
 use crate::act::channels::{Received, Receiver, receive};
 use crate::act::contexts::Acts;

@@ -1,7 +1,5 @@
 //! A limit on how many do something at a time, whatever their scopes.
-ghost use Rattle.realm_core.specs.Calls.{SeesMore};
-ghost use Rattle.balkreyn.specs.Acting.{Pauses};
-ghost use Rattle.balkreyn.specs.Looking.{Permits, RunsLimited};
+ghost use Rattle.balkreyn.specs.{Pauses, Permits, RunsLimited, SeesMore};
 
 use crate::act::came::Came;
 use crate::act::contexts::Acts;

@@ -1,7 +1,6 @@
 //! The owner of one of the two realms. Of a whole turn no clause says what was done: the source lies under a lock
 //! between turns, and what happened goes with the retirement.
-ghost use Rattle.realm_core.specs.Calls.{SeesMore};
-ghost use Rattle.balkreyn.specs.Turns.{Tries};
+ghost use Rattle.balkreyn.specs.{SeesMore, Tries};
 
 use crate::act::asking::Asking;
 use crate::act::baton::{Baton, Side};

@@ -1,5 +1,5 @@
 //! A body that is called again and again, with a pause behind each call.
-ghost use Rattle.balkreyn.specs.Acting.{Repeats, Sleeps};
+ghost use Rattle.balkreyn.specs.{Repeats, Sleeps};
 
 use crate::act::contexts::Acts;
 use realm_lock::Mark;

@@ -1,9 +1,6 @@
 //! Results as they complete, before the join.
-ghost use Rattle.std.specs.Prelude.{◌≡◌, [], IfSome, MatchOption, MatchResult, Ok, Some};
-ghost use Rattle.realm_core.specs.Calls.{SeesMore};
-ghost use Rattle.balkreyn.specs.Acting.{Pauses};
-ghost use Rattle.balkreyn.specs.Looking.{Completes, FindsDone, IsNotFound, LookRefused, NextCame, SleptLast};
-ghost use Rattle.balkreyn.specs.Slots.{task_of};
+ghost use Rattle.std.specs.Prelude.{[], ◌≡◌, IfSome, MatchOption, MatchResult, Ok, Some};
+ghost use Rattle.balkreyn.specs.{Completes, FindsDone, IsNotFound, LookRefused, NextCame, Pauses, SeesMore, SleptLast, task_of};
 
 use crate::act::came::Came;
 use crate::act::contexts::Acts;

@@ -1,7 +1,5 @@
 //! A limit on how often something is done.
-ghost use Rattle.realm_core.specs.Calls.{SeesMore};
-ghost use Rattle.balkreyn.specs.Acting.{Pauses};
-ghost use Rattle.balkreyn.specs.Looking.{Passes, WaitsTurn};
+ghost use Rattle.balkreyn.specs.{Passes, Pauses, SeesMore, WaitsTurn};
 
 use crate::act::contexts::Acts;
 use crate::act::limits::{Limiter, Permit};

@@ -1,7 +1,6 @@
 //! How much of a realm's room requests take.
-ghost use Rattle.std.specs.Prelude.{◌≡◌, ◌⊎◌, ◌↔◌, Err, IfErr, IfOk, IsTrue, Ok, true};
-ghost use Rattle.scope_rules.specs.declared.types.refusals.Refusal.TheVariants.{Memory};
-ghost use Rattle.balkreyn.specs.Rooms.{HasRoom, in_use, load_of, room_of, room_without};
+ghost use Rattle.std.specs.Prelude.{◌↔◌, ◌≡◌, ◌⊎◌, Err, IfErr, IfOk, IsTrue, Ok, true};
+ghost use Rattle.balkreyn.specs.{HasRoom, Memory, in_use, load_of, room_of, room_without};
 
 use scope_rules::types::capacity::{FORK_LOAD, OPEN_LOAD, STEP_LOAD};
 use scope_rules::{Base, Limits, Refusal};

@@ -1,6 +1,5 @@
 //! A stop that is asked for from outside.
-ghost use Rattle.balkreyn.specs.Acting.{Pauses, Sleeps};
-ghost use Rattle.balkreyn.specs.Looking.{CancelsBehind, Watches};
+ghost use Rattle.balkreyn.specs.{CancelsBehind, Pauses, Sleeps, Watches};
 
 use crate::act::contexts::Acts;
 use crate::act::turns::{Turn, ring};

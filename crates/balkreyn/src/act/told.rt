@@ -1,7 +1,6 @@
 //! Which cancels a task reports to the observer, each once.
-ghost use Rattle.std.specs.Prelude.{◌≡◌, []};
-ghost use Rattle.scope_log.specs.LocalForms.{cause_in};
-ghost use Rattle.balkreyn.specs.Told.{Tells, TellsOf, cause_behind, tells};
+ghost use Rattle.std.specs.Prelude.{[], ◌≡◌};
+ghost use Rattle.balkreyn.specs.{Tells, TellsOf, cause_behind, cause_in, tells};
 
 use crate::act::hooks::Happening;
 use realm_lock::{Joined, Mark};

@@ -1,12 +1,8 @@
 //! Typed jobs that act by one value, and what is done with several of them.
-ghost use Rattle.std.specs.Prelude.{◌≡◌, IfOk, IfSome, MatchResult, None, pos, Contains, length};
+ghost use Rattle.std.specs.Prelude.{◌≡◌, Contains, IfOk, IfSome, MatchResult, None, length, pos};
+ghost use Rattle.balkreyn.specs.{CameTo, ClosesNow, FindsNothing, FirstCame, ForkedInto, ForksInto, Gathers, Gave, JoinsFrom, Opens, Races, RunsJobs, SeesMore, Slots.Says, StopsForking, Takes, task_of};
 ghost use Rattle.scope_rules.specs.declared.types.joiners.Policy.TheVariants as policy;
 ghost use Rattle.scope_rules.specs.declared.types.values.Value.TheVariants as value;
-ghost use Rattle.realm_core.specs.Calls.{SeesMore};
-ghost use Rattle.balkreyn.specs.Acting.{ClosesNow, JoinsFrom};
-ghost use Rattle.balkreyn.specs.Bodies.{Opens};
-ghost use Rattle.balkreyn.specs.Slots.{ForksInto, Says, Takes, task_of};
-ghost use Rattle.balkreyn.specs.Together.{CameTo, FindsNothing, FirstCame, ForkedInto, Gathers, Gave, Races, RunsJobs, StopsForking};
 
 use crate::act::blocks::entered;
 use crate::act::came::{Came, came_of};

@@ -1,7 +1,5 @@
 //! Waits for what others give: one looks, sleeps at a bell until that is rung, and looks again.
-ghost use Rattle.realm_core.specs.Calls.{SeesMore};
-ghost use Rattle.balkreyn.specs.Acting.{Pauses};
-ghost use Rattle.balkreyn.specs.Looking.{Awaits};
+ghost use Rattle.balkreyn.specs.{Awaits, Pauses, SeesMore};
 
 use crate::act::contexts::Acts;
 use crate::act::turns::Turn;

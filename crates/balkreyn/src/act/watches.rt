@@ -1,7 +1,5 @@
 //! A watch: a job that notes when events happen, and writes tree and journal to files if the service hangs.
-ghost use Rattle.realm_core.specs.Calls.{SeesMore};
-ghost use Rattle.balkreyn.specs.Acting.{Sleeps};
-ghost use Rattle.balkreyn.specs.Looking.{WatchesOn};
+ghost use Rattle.balkreyn.specs.{SeesMore, Sleeps, WatchesOn};
 
 use crate::act::baton::Side;
 use crate::act::contexts::Acts;

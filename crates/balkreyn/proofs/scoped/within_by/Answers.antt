@@ -1,4 +1,4 @@
-use Rattle.std.proofs.Common.{Ok, rules, refl, inr, true}
+use Rattle.balkreyn.proofs.Words.{Ok, inr, refl, rules, true}
 use Rattle.balkreyn.proofs.scoped.within_by.Goals as goal
 
 -- the scope was opened, the body came back, and the close was refused

@@ -1,6 +1,5 @@
-use Rattle.std.proofs.Common.{refl, inr}
-use Rattle.scope_rules.specs.declared.types.refusals.Refusal.TheVariants.{Memory}
-use Rattle.job_runner.specs.Forks.{Before}
+use Rattle.balkreyn.specs.{Before, Memory}
+use Rattle.balkreyn.proofs.Words.{inr, refl}
 use Rattle.balkreyn.proofs.slots.fork_typed.Goals as goal
 
 -- there was no memory for the place, and nothing was begun

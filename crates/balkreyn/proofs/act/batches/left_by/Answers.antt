@@ -1,5 +1,5 @@
-use Rattle.std.proofs.Common.{◌∙◌, rules}
-use Rattle.balkreyn.specs.Coming.{IsCame, MayCome}
+use Rattle.balkreyn.specs.{IsCame, MayCome}
+use Rattle.balkreyn.proofs.Words.{◌∙◌, rules}
 use Rattle.balkreyn.proofs.Looked.{all_more, may_come}
 use Rattle.balkreyn.proofs.act.batches.left_by.Goals as goal
 

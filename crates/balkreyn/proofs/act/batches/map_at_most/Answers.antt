@@ -1,6 +1,5 @@
-use Rattle.std.specs.Arc.{arc_value}
-use Rattle.std.proofs.Common.{◌∙◌, inr, length, max, rules}
-use Rattle.balkreyn.specs.Together.{GivesEach}
+use Rattle.balkreyn.specs.{GivesEach, arc_value}
+use Rattle.balkreyn.proofs.Words.{◌∙◌, inr, length, max, rules}
 use Rattle.balkreyn.proofs.Looked.{maps_so}
 use Rattle.balkreyn.proofs.act.batches.map_at_most.Goals as goal
 

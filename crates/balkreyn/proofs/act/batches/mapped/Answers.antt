@@ -1,8 +1,5 @@
-use Rattle.std.specs.Arc.{arc_value}
-use Rattle.std.specs.Prelude.{All, IfOk}
-use Rattle.std.proofs.Common.{◌≡◌, inr, length, rules, subst}
-use Rattle.balkreyn.specs.Coming.{MayCome}
-use Rattle.balkreyn.specs.Together.{GivesEach, Maps}
+use Rattle.std.proofs.Common.{◌≡◌, All, IfOk, inr, length, rules, subst}
+use Rattle.balkreyn.specs.{GivesEach, Maps, MayCome, arc_value}
 use Rattle.balkreyn.proofs.Looked.{mapped_by, on_error}
 use Rattle.balkreyn.proofs.act.batches.mapped.Goals as goal
 

@@ -1,5 +1,5 @@
-use Rattle.std.proofs.Common.{rules}
-use Rattle.balkreyn.specs.Together.{forked, unforked}
+use Rattle.balkreyn.specs.{forked, unforked}
+use Rattle.balkreyn.proofs.Words.{rules}
 use Rattle.balkreyn.proofs.act.batches.staffed.Goals as goal
 
 pub loop-number-init : goal.loop-number-init

@@ -1,5 +1,5 @@
 use Rattle.std.proofs.Common.{◌-◌, ◌≤◌}
-use Rattle.balkreyn.specs.Together.{Forked}
+use Rattle.balkreyn.specs.{Forked}
 use Rattle.balkreyn.proofs.act.batches.staffed.Given as goal
 
 -- so many workers were forked

@@ -1,4 +1,4 @@
-use Rattle.std.proofs.Common.{rules, refl, inr}
+use Rattle.balkreyn.proofs.Words.{inr, refl, rules}
 use Rattle.balkreyn.proofs.act.blocks.bound.Goals as goal
 
 -- the key was bound, the body came back, and the unbind was refused

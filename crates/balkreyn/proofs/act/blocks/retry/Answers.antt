@@ -1,6 +1,5 @@
-use Rattle.std.proofs.Common.{Ok, rules, refl, inl, inr}
-use denote.Param.Always.{mut_next}
-use Rattle.balkreyn.specs.Acting.{Sleeps, more, none}
+use Rattle.balkreyn.specs.{Acting.none, Sleeps, more}
+use Rattle.balkreyn.proofs.Words.{Ok, inl, inr, mut_next, refl, rules}
 use Rattle.balkreyn.proofs.Acted.{called_so, last_try, mark_of, none_of}
 use Rattle.balkreyn.proofs.act.blocks.retry.Goals as goal
 

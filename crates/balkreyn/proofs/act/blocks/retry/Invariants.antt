@@ -1,6 +1,6 @@
 use Rattle.std.proofs.Common.{◌-◌, ◌≤◌}
-use denote.Param.Always.{always_mut}
-use Rattle.balkreyn.specs.Acting.{Failed, Sleeps}
+use Rattle.balkreyn.specs.{Failed, Sleeps}
+use Rattle.balkreyn.proofs.Words.{always_mut}
 use Rattle.balkreyn.proofs.act.blocks.retry.Given as goal
 
 -- so many tries failed, and the body may be called again

@@ -1,8 +1,6 @@
-use Rattle.std.proofs.Common.{rules}
-use Rattle.std.proofs.lemmas.List.{nil_from_length}
-use Rattle.balkreyn.proofs.Collected.{first_cut, next_cut, one_value, one_was_cut}
+use Rattle.balkreyn.proofs.Words.{nil_from_length, rules}
+use Rattle.balkreyn.proofs.{Collected.first_cut, Collected.next_cut, Collected.one_value, Collected.one_was_cut, act.came.all_values.Goals.in-None-cut, act.came.all_values.Goals.in-Some-cut}
 use Rattle.balkreyn.proofs.act.came.all_values.Goals as goal
-use Rattle.balkreyn.proofs.act.came.all_values.Goals.{in-Some-cut, in-None-cut}
 
 -- a value more
 pub loop-came-preserved-in-Continue-1 : goal.loop-came-preserved-in-Continue-1

@@ -1,4 +1,4 @@
-use Rattle.std.proofs.Common.{rules}
+use Rattle.balkreyn.proofs.Words.{rules}
 use Rattle.balkreyn.proofs.act.channels.offer.Goals as goal
 
 -- a cancel or a deadline came before there was room

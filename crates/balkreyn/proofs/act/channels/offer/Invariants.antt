@@ -1,6 +1,6 @@
 -- The token has only seen more, and the value is at hand.
 use Rattle.std.proofs.Common.{◌≡◌}
-use Rattle.realm_core.specs.Calls.{SeesMore}
+use Rattle.balkreyn.specs.{SeesMore}
 use Rattle.balkreyn.proofs.act.channels.offer.Given as goal
 
 abbrev pub invariant-loop : goal.invariant-loop

@@ -1,6 +1,5 @@
-use Rattle.std.proofs.Common.{rules, refl, inl, inr}
-use denote.Param.Always.{mut_next}
-use Rattle.balkreyn.specs.Channels.{none, one}
+use Rattle.balkreyn.specs.{Channels.none, one}
+use Rattle.balkreyn.proofs.Words.{inl, inr, mut_next, refl, rules}
 use Rattle.balkreyn.proofs.Acted.{called_so}
 use Rattle.balkreyn.proofs.act.items.each.Goals as goal
 

@@ -1,6 +1,5 @@
-use denote.Param.Always.{always_mut}
-use Rattle.balkreyn.specs.Acting.{Pauses}
-use Rattle.balkreyn.specs.Channels.{Handled, Receives}
+use Rattle.balkreyn.specs.{Handled, Pauses, Receives}
+use Rattle.balkreyn.proofs.Words.{always_mut}
 use Rattle.balkreyn.proofs.act.items.each.Given as goal
 
 -- the body succeeded with each value so far, and may be called again

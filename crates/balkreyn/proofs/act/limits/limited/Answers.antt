@@ -1,4 +1,4 @@
-use Rattle.std.proofs.Common.{rules, refl, inl, inr}
+use Rattle.balkreyn.proofs.Words.{inl, inr, refl, rules}
 use Rattle.balkreyn.proofs.act.limits.limited.Goals as goal
 
 -- a cancel or a deadline came before a permit

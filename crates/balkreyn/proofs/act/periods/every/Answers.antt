@@ -1,6 +1,5 @@
-use Rattle.std.proofs.Common.{Ok, rules, refl, inl, inr}
-use denote.Param.Always.{mut_next}
-use Rattle.balkreyn.specs.Acting.{Sleeps, round, start}
+use Rattle.balkreyn.specs.{Sleeps, round, start}
+use Rattle.balkreyn.proofs.Words.{Ok, inl, inr, mut_next, refl, rules}
 use Rattle.balkreyn.proofs.Acted.{called_so, none_of, shown_of}
 use Rattle.balkreyn.proofs.act.periods.every.Goals as goal
 

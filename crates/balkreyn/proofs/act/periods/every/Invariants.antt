@@ -1,6 +1,6 @@
 use Rattle.std.proofs.Common.{◌-◌, ◌≤◌}
-use denote.Param.Always.{always_mut}
-use Rattle.balkreyn.specs.Acting.{Repeated, Sleeps}
+use Rattle.balkreyn.specs.{Repeated, Sleeps}
+use Rattle.balkreyn.proofs.Words.{always_mut}
 use Rattle.balkreyn.proofs.act.periods.every.Given as goal
 
 -- so many rounds succeeded, and the body may be called again

@@ -1,4 +1,4 @@
-use Rattle.std.proofs.Common.{sym}
+use Rattle.balkreyn.proofs.Words.{sym}
 use Rattle.balkreyn.proofs.act.progress.first_done.Goals as goal
 
 pub returns-in-Some-clause-answer : goal.returns-in-Some-clause-answer

@@ -1,5 +1,5 @@
-use Rattle.std.proofs.Common.{Ok, rules}
-use Rattle.balkreyn.specs.Acting.{Sleeps}
+use Rattle.balkreyn.specs.{Sleeps}
+use Rattle.balkreyn.proofs.Words.{Ok, rules}
 use Rattle.balkreyn.proofs.Acted.{mark_of}
 use Rattle.balkreyn.proofs.act.stops.cancelled_behind.Goals as goal
 

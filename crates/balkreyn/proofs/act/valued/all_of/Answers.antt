@@ -1,4 +1,4 @@
-use Rattle.std.proofs.Common.{rules, inr}
+use Rattle.balkreyn.proofs.Words.{inr, rules}
 use Rattle.balkreyn.proofs.act.valued.all_of.Goals as goal
 
 -- the jobs ran, and the close was refused

@@ -1,5 +1,5 @@
-use Rattle.std.proofs.Common.{refl, subst, sym}
-use Rattle.balkreyn.specs.Together.{OfOutcome}
+use Rattle.balkreyn.specs.{OfOutcome}
+use Rattle.balkreyn.proofs.Words.{refl, subst, sym}
 use Rattle.balkreyn.proofs.Looked.{by_error, first_by, of_no_task}
 use Rattle.balkreyn.proofs.act.valued.first_of.Goals as goal
 

@@ -1,5 +1,5 @@
-use Rattle.std.proofs.Common.{◌++◌, ◌∷◌, [], refl, inr}
-use Rattle.balkreyn.specs.Together.{StopsForking, into, no_slot}
+use Rattle.std.proofs.Common.{[], ◌++◌, ◌∷◌, inr, refl}
+use Rattle.balkreyn.specs.{StopsForking, into, no_slot}
 use Rattle.balkreyn.proofs.Looked.{by_memory, none_forked, one_forked}
 use Rattle.balkreyn.proofs.act.valued.fork_all.Goals as goal
 

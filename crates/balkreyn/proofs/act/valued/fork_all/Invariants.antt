@@ -1,6 +1,6 @@
 -- These slots are of the jobs so far.
-use Rattle.std.proofs.Common.{◌≡◌, ◌+◌, length}
-use Rattle.balkreyn.specs.Together.{ForkedInto}
+use Rattle.std.proofs.Common.{◌+◌, ◌≡◌, length}
+use Rattle.balkreyn.specs.{ForkedInto}
 use Rattle.balkreyn.proofs.act.valued.fork_all.Given as goal
 
 abbrev pub invariant-loop-job : goal.invariant-loop-job

@@ -1,5 +1,5 @@
-use Rattle.std.proofs.Common.{inr, length}
-use Rattle.balkreyn.specs.Together.{FindsNothing}
+use Rattle.balkreyn.specs.{FindsNothing}
+use Rattle.balkreyn.proofs.Words.{inr, length}
 use Rattle.balkreyn.proofs.Looked.{by_error, gathered_by}
 use Rattle.balkreyn.proofs.act.valued.gathered.Goals as goal
 

@@ -1,5 +1,5 @@
-use Rattle.std.proofs.Common.{◌∙◌, sym, refl}
-use Rattle.balkreyn.specs.Together.{asked, not_asked}
+use Rattle.balkreyn.specs.{asked, not_asked}
+use Rattle.balkreyn.proofs.Words.{◌∙◌, refl, sym}
 use Rattle.balkreyn.proofs.act.valued.given.Goals as goal
 
 pub loop-slot-init : goal.loop-slot-init

@@ -1,6 +1,6 @@
 -- So many slots were asked, and the mark is as it was.
 use Rattle.std.specs.Prelude.{◌≡◌}
-use Rattle.balkreyn.specs.Together.{Gave}
+use Rattle.balkreyn.specs.{Gave}
 use Rattle.balkreyn.proofs.act.valued.given.Given as goal
 
 abbrev pub invariant-loop-slot : goal.invariant-loop-slot

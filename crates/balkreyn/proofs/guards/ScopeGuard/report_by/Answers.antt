@@ -1,9 +1,5 @@
-use Rattle.std.proofs.Common.{ℕ, ◌≡◌, ◌⊎◌, subst}
-use Rattle.std.specs.Prelude.{None}
-use Rattle.realm_core.specs.Calls.{history_seen}
-use Rattle.realm_core.specs.Waiting.{FoundUnsettled}
-use Rattle.realm_lock.specs.Waits.{ClosesAfter, StaysUnclosed}
-use Rattle.job_runner.specs.Reports.{ClosesHere, StaysHere}
+use Rattle.std.proofs.Common.{ℕ, ◌≡◌, ◌⊎◌, None, subst}
+use Rattle.balkreyn.specs.{ClosesAfter, ClosesHere, FoundUnsettled, StaysHere, StaysUnclosed, history_seen}
 use Rattle.balkreyn.proofs.guards.ScopeGuard.report_by.Goals as goal
 
 pub returns-in-Ok-clause-closed : goal.returns-in-Ok-clause-closed

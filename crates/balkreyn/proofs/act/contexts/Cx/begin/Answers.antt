@@ -1,6 +1,5 @@
-use Rattle.std.specs.Prelude.{Err}
-use Rattle.std.proofs.Common.{ap, refl, inr}
-use Rattle.job_runner.specs.Forks.{Before}
+use Rattle.balkreyn.specs.{Before, Err}
+use Rattle.balkreyn.proofs.Words.{ap, inr, refl}
 use Rattle.balkreyn.proofs.Tried.{tries}
 use Rattle.balkreyn.proofs.act.contexts.Cx.begin.Goals as goal
 

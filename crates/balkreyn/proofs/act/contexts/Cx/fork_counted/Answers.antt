@@ -1,5 +1,5 @@
-use Rattle.std.proofs.Common.{refl, inr}
-use Rattle.job_runner.specs.Forks.{Before}
+use Rattle.balkreyn.specs.{Before}
+use Rattle.balkreyn.proofs.Words.{inr, refl}
 use Rattle.balkreyn.proofs.act.contexts.Cx.fork_counted.Goals as goal
 
 -- there may be no more, or there was no memory for its share, and nothing was begun

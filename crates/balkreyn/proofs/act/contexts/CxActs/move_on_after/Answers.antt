@@ -1,4 +1,4 @@
-use Rattle.std.proofs.Common.{rules}
+use Rattle.balkreyn.proofs.Words.{rules}
 use Rattle.balkreyn.proofs.act.contexts.CxActs.move_on_after.Goals as goal
 
 pub returns : goal.returns

@@ -1,4 +1,4 @@
-use Rattle.std.proofs.Common.{rules}
+use Rattle.balkreyn.proofs.Words.{rules}
 use Rattle.balkreyn.proofs.Acted.{slept}
 use Rattle.balkreyn.proofs.act.contexts.CxActs.sleep.Goals as goal
 

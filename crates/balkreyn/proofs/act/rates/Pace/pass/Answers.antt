@@ -1,5 +1,5 @@
-use Rattle.std.proofs.Common.{rules, inr}
-use Rattle.balkreyn.specs.Acting.{Pauses}
+use Rattle.balkreyn.specs.{Pauses}
+use Rattle.balkreyn.proofs.Words.{inr, rules}
 use Rattle.balkreyn.proofs.Looked.{mark_shown, turn_refused}
 use Rattle.balkreyn.proofs.act.rates.Pace.pass.Goals as goal
 

@@ -1,4 +1,4 @@
-use Rattle.balkreyn.specs.Acting.{Pauses}
+use Rattle.balkreyn.specs.{Pauses}
 use Rattle.balkreyn.proofs.Looked.{turn_later}
 use Rattle.balkreyn.proofs.act.rates.Rate.pass.Goals as goal
 

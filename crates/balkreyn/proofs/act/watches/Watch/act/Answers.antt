@@ -1,4 +1,4 @@
-use Rattle.std.proofs.Common.{inl, refl}
+use Rattle.balkreyn.proofs.Words.{inl, refl}
 use Rattle.balkreyn.proofs.act.watches.Watch.act.Goals as goal
 
 -- a mark was shown in the last sleep

@@ -1,5 +1,5 @@
 -- The token has only seen more.
-use Rattle.realm_core.specs.Calls.{SeesMore}
+use Rattle.balkreyn.specs.{SeesMore}
 use Rattle.balkreyn.proofs.act.watches.Watch.act.Given as goal
 
 abbrev pub invariant-loop : goal.invariant-loop
