@@ -128,7 +128,7 @@ none_after there a now due = omega (arith, at, due.come, late)
     at = ap moment (history-push there (Asked a (ask.Tick now))) ∙ moment_grows (history_of there) (Tick now)
 
     late : moment (history_of (there ++ Asked a (ask.Tick now) ∷ [])) < due.deadline
-    late = due.next.coming
+    late = due.next.comes.coming
 
 -- what the command of a tick leaves that was accepted
 pub tick_passed : (core after final : CoreValue) (old new : OwnerValue) (now : ℕ) (result : Result EventReply Refusal) → final ≡ after → Stepped core after new (Asked old.actor (ask.Tick now)) (records result) → Performed old new (Tick now) result → IfOk (done result) (λ _. (final.steps ≡ new.seen) × (HasCome (history_of final.steps) now → ⊥))

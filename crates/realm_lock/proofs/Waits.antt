@@ -14,7 +14,7 @@ unfolding row_check checks then_check
 full L h now r due is = by (over_load L h STEP_LOAD) refl
   where
     forward : nat_lt now (moment h) ≡ false
-    forward = le-ltb now (moment h) (omega (arith, due.next.coming, due.come))
+    forward = le-ltb now (moment h) (omega (arith, due.next.comes.coming, due.come))
 
     by : (b : Bool) → over_load L h STEP_LOAD ≡ b → r ≡ TooMany
     by true over = let said = rw (forward, over) at is in cc
