@@ -225,6 +225,7 @@ static void hears(balkreyn_book *book)
 {
     int64_t answers[3] = {7, 7, 7};
     balkreyn_news news = {.scope = 7};
+    uint64_t moment = 0;
 
     CHECK(balkreyn_around(book, MAIN) == 0 && balkreyn_is_cancelled(book, MAIN) == 0);
     CHECK(balkreyn_around(book, 1) == BALKREYN_RETIRED && balkreyn_is_cancelled(book, 99) == BALKREYN_NO_TASK);
@@ -241,8 +242,11 @@ static void hears(balkreyn_book *book)
 
     CHECK(balkreyn_fail_told(book, 9, TEXT("IO"), &news) == BALKREYN_BAD_ARGUMENT && news.scope == 7);
     CHECK(balkreyn_finish_told(book, 8, 1, &news) == BALKREYN_STRUCTURE && news.scope == 7);
+    CHECK(balkreyn_next_deadline(book, &moment) == 1 && moment == 99);
     CHECK(balkreyn_fail_told(book, 9, TEXT("io"), &news) == BALKREYN_DONE);
-    CHECK(news.scope == 6 && !news.quiet && news.cancelled == 2 && news.comes && news.deadline == 99);
+    /* Scope 7 is cancelled with the one around it, so its deadline can do nothing more. */
+    CHECK(news.scope == 6 && !news.quiet && news.cancelled == 2 && !news.comes);
+    CHECK(balkreyn_next_deadline(book, &moment) == 0);
     CHECK(balkreyn_nth_cancelled(book, 0) == 6 && balkreyn_nth_cancelled(book, 1) == 7);
     CHECK(BALKREYN_KIND(balkreyn_is_cancelled(book, MAIN)) == BALKREYN_BY_JOINER && BALKREYN_NUMBER(balkreyn_is_cancelled(book, 9)) == 6);
     /* The shield holds for who opened it, and once it is closed no more. */
