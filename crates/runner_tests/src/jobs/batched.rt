@@ -151,20 +151,23 @@ fn forked_together<N: RealmName, S: Spawns<N, JobWork<AnyEnd, N, TestJob>>, R: W
     }
 }
 
-/// Forks three jobs together, and joins and closes their scope.
-pub fn three_are_forked_together<
+/// Forks jobs together, twice, and joins and closes their scope: three, whose threads rest then, and five, of
+/// which three find a thread in one go.
+pub fn some_are_forked_together<
     N: RealmName,
     S: Spawns<N, JobWork<AnyEnd, N, TestJob>>,
     R: Wait + Abort,
 >(rt: &R, ctx: &mut TaskCtx<AnyEnd, S, N>, board: &Shared) -> Result<(), Fail> {
-    let Ok(scope) = ctx.open(rt, Joiner::All, Options::PLAIN) else {
-        return Err("no scope")?;
-    };
-    let jobs = jobs_of(board, 3).ok_or("memory")?;
-    let forked = forked_together(rt, ctx, scope, jobs);
-    ctx.join(rt, scope)?;
-    ctx.close_scope_bare(rt, scope)?;
-    assert!(rt; forked == Ok(3));
-    assert_eq!(rt; board.calls(), 3);
+    for (count, calls) in [(3, 3), (5, 8)] {
+        let Ok(scope) = ctx.open(rt, Joiner::All, Options::PLAIN) else {
+            return Err("no scope")?;
+        };
+        let jobs = jobs_of(board, count).ok_or("memory")?;
+        let forked = forked_together(rt, ctx, scope, jobs);
+        ctx.join(rt, scope)?;
+        ctx.close_scope_bare(rt, scope)?;
+        assert!(rt; forked == Ok(count as usize));
+        assert_eq!(rt; board.calls(), calls);
+    }
     Ok(())
 }

@@ -1,6 +1,6 @@
 //! Rows of what main does with jobs in its context: which there are, and two that look for one another, a
 //! tree, and a thread that is refused.
-use super::batched::{Batch, is_forked_in_one_go, three_are_forked_together};
+use super::batched::{Batch, is_forked_in_one_go, some_are_forked_together};
 use super::duties::{Duty, Shared, TestJob, fork, named, number_of};
 use super::logs::starts_and_ends;
 use super::outcomes::{
@@ -32,7 +32,7 @@ pub enum Row {
     NthRefused(u64),
     /// A batch of jobs is forked in one go.
     Batch(Batch),
-    /// Three jobs are.
+    /// Two batches are, the second beside threads that rest.
     Together,
     /// The first task ends after the second.
     Reversed,
@@ -92,7 +92,7 @@ pub fn play<
         Row::SecondRefused => second_thread_is_refused(rt, ctx, board),
         Row::NthRefused(nth) => nth_is_refused(rt, ctx, board, nth),
         Row::Batch(batch) => is_forked_in_one_go(rt, ctx, board, batch),
-        Row::Together => three_are_forked_together(rt, ctx, board),
+        Row::Together => some_are_forked_together(rt, ctx, board),
         Row::Reversed => two_end_in_reverse(rt, ctx, board),
         Row::Fails => one_fails(rt, ctx, board),
         Row::Cancelled { duty, number } => main_cancels(rt, ctx, board, duty, number),
