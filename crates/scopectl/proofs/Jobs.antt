@@ -1,10 +1,10 @@
 -- What was read and written makes what a job did.
 use Rattle.std.specs.Prelude.{◌≡◌, ◌≢◌, ◌≤◌}
-use Rattle.scopectl.specs.{[], ℕ, Appends, AppendsPart, Bool, CameFrom, CommandLine, Count, DidPart, DidReplay, DidWhole, EitherBy, Err, FailedAtEnd, IsSaid, List, Made, Makes}
-use Rattle.scopectl.specs.{NamesFault, None, Noted, NotedFault, NotedPartly, Notes, OfNotes, Ok, Option, Paged, ProgramFault, ReadSome, Refusals, Replayed, ReplayedNoted, ReplayedPartly, Replies}
-use Rattle.scopectl.specs.{Result, Run, RunsPartly, ScriptFault, ScriptOptions, Showed, ShowedNoted, Some, ToldNotes, Turn, ViewOptions, WroteLate, count_text, false, fault_of_noted, fault_of_run}
-use Rattle.scopectl.specs.{is_silent, noted_text, notes_on, notes_text, notes_wanted, status_of, true, view_of}
-use Rattle.scopectl.proofs.Words.{◌∙◌, Appends-trans, ap, append-nil, arith, inl, inr, refl, subst, sym}
+use Rattle.scopectl.specs.{[], ℕ, Appends, AppendsPart, Bool, CameFrom, CommandLine, Count, DidPart, DidReplay, DidWhole, EitherBy, Err, FailedAtEnd, IsSaid, Limits, List, Made, Makes}
+use Rattle.scopectl.specs.{NamesFault, None, Noted, NotedFault, Notes, OfNotes, Ok, Option, Paged, ProgramFault, ReadSome, Replayed, Replies}
+use Rattle.scopectl.specs.{Result, Run, RunsPartly, ScriptFault, ScriptOptions, Showed, Some, ToldNotes, View, ViewOptions, WroteLate, count_text, false, fault_of_noted, fault_of_run}
+use Rattle.scopectl.specs.{is_silent, is_some, notes_wanted, status_of, true, view_of}
+use Rattle.scopectl.proofs.Words.{◌∙◌, Appends-trans, ap, arith, inl, inr, refl, subst, sym}
 
 -- a status that is 0 or 1 is 0 if it is not 1
 pub well_ended : (status : ℕ) → status ≤ 1 → status ≢ 1 → status ≡ 0
@@ -87,9 +87,9 @@ noted_kept quiet count Kept Other said said_new failed weaker it = by (is_silent
     by true kept = weaker kept
     by false text = text
 
--- the notes that the words want
-pub notes_are : (script : ScriptOptions) (explain trace : Bool) (notes : Notes) (bytes : List ℕ) → notes_wanted explain trace ≡ Some notes → notes_text notes script.limits bytes ≡ notes_on (CommandLine.Replay script explain trace) bytes
-notes_are script explain trace notes bytes same = ap (λ (w : Option Notes). noted_text w script.limits bytes) (sym same)
+-- notes are wanted
+pub notes_are : (explain trace : Bool) (notes : Notes) → notes_wanted explain trace ≡ Some notes → is_some (notes_wanted explain trace) ≡ true
+notes_are explain trace notes same = ap (λ (w : Option Notes). is_some w) same
 
 pub read_is_other : ScriptFault.Read ≡ ScriptFault.Memory → ⊥
 read_is_other e = cc
@@ -122,18 +122,15 @@ names_weaker said said_new failed ByReader ByWriter Sound OfPlan Plan weaker nam
 
 -- ---- a script's jobs
 
--- what was said of the run by then
-abbrev pub turn_to : Run → Option (List ℕ) → Turn
-turn_to run mid = record { before = run.said.before; after = mid }
-
 module _ (script : ScriptOptions) (explain trace : Bool) (run : Run) where
-  pub noted_part : (mid : Option (List ℕ)) (notes : Notes) → ReplayedPartly run.taken run.written (turn_to run mid) script.limits notes → DidPart (CommandLine.Replay script explain trace) run
-  noted_part mid notes it = record { bytes = it.script; read = it.read; wrote = it.wrote }
-
   pub replayed_part : RunsPartly run.taken.before run.taken.after run.written.before run.written.after Replies script.limits → DidPart (CommandLine.Replay script explain trace) run
   replayed_part it = record { bytes = it.script; read = it.read; wrote = it.replied }
 
 -- ---- a view
+
+-- the view that was shown is the one that the words ask for
+pub shown_as : (a b : View) (unread unread_new : Option (List ℕ)) (limits : Limits) (text : List ℕ) (count : Count) → a ≡ b → Showed unread unread_new limits a text count → Showed unread unread_new limits b text count
+shown_as a b unread unread_new limits text count same it = subst (λ (v : View). Showed unread unread_new limits v text count) same it
 
 pub made : (v : ViewOptions) (script : ScriptOptions) (lenient explain : Bool) (unread unread_new : Option (List ℕ)) (text : List ℕ) (count : Count) → Showed unread unread_new script.limits (view_of v) text count → Made (Makes (CommandLine.Show script v lenient explain)) unread unread_new text
 made v script lenient explain unread unread_new text count shown = record {
@@ -174,10 +171,6 @@ module _ (v : ViewOptions) (script : ScriptOptions) (lenient explain : Bool) (ru
   pub view_stopped : ReadSome run.taken.before run.taken.after → Appends run.written.before run.written.after [] → DidPart (CommandLine.Show script v lenient explain) run
   view_stopped some unwritten = record { bytes = some.bytes; read = some.read; wrote = inl unwritten }
 
-  -- the same, with notes on the lines
-  pub view_stopped_noted : (mid : Option (List ℕ)) → NotedPartly run.taken (turn_to run mid) script.limits Refusals → Appends run.written.before run.written.after [] → DidPart (CommandLine.Show script v lenient explain) run
-  view_stopped_noted mid some unwritten = record { bytes = some.script; read = some.read; wrote = inl unwritten }
-
 -- ---- a page
 
 pub page_made : (script : ScriptOptions) (lenient : Bool) (unread unread_new : Option (List ℕ)) (text : List ℕ) (count : Count) → Paged unread unread_new script.limits text count → Made (Makes (CommandLine.Page script lenient)) unread unread_new text
@@ -207,15 +200,14 @@ module _ (run : Run) (result : ℕ) (script : ScriptOptions) (count : Count) whe
 
   module _ (status : result ≡ status_of script.strict true count) where
     pub replay_noted : (notes : Notes) (mid : Option (List ℕ)) → Noted script.quiet count (run.said.after ≡ mid) mid run.said.after run.errors_failed
-        → ReplayedNoted run.taken run.written (turn_to run mid) script.limits notes count → DidReplay (Some notes) script run result
+        → Replayed run.taken.before run.taken.after run.written.before run.written.after script.limits count → DidReplay (Some notes) script run result
     replay_noted notes mid noted it explain trace same = record {
-      did = record { bytes = it.replay.script; read = it.replay.read; all = it.replay.all; text = _; makes = refl; wrote = it.replay.wrote };
-      noted = told_notes (Some notes) (notes_wanted explain trace) same it.replay.script (record {
+      did = record { bytes = it.script; read = it.read; all = it.all; text = _; makes = refl; wrote = it.wrote };
+      noted = told_notes (Some notes) (notes_wanted explain trace) same it.script (record {
         noted = mid;
-        notes_said = it.noted;
-        counted = subst (λ (t : Count). Noted script.quiet t (run.said.after ≡ mid) mid run.said.after run.errors_failed) it.replay.counted noted;
+        counted = subst (λ (t : Count). Noted script.quiet t (run.said.after ≡ mid) mid run.said.after run.errors_failed) it.counted noted;
       });
-      status = status ∙ ap (status_of script.strict true) it.replay.counted;
+      status = status ∙ ap (status_of script.strict true) it.counted;
     }
 
     pub replay_whole : Noted script.quiet count run.ErrorsKept run.said.before run.said.after run.errors_failed → Replayed run.taken.before run.taken.after run.written.before run.written.after script.limits count → DidReplay None script run result
@@ -236,15 +228,14 @@ module _ (run : Run) (result : ℕ) (script : ScriptOptions) (count : Count) whe
 
     -- with notes on the refused lines
     pub view_noted : (said : Option (List ℕ)) → Noted script.quiet count (run.said.after ≡ said) said run.said.after run.errors_failed
-        → ShowedNoted run.taken (turn_to run said) script.limits (view_of v) Refusals text count → DidWhole (CommandLine.Show script v lenient true) run result
+        → Showed run.taken.before run.taken.after script.limits (view_of v) text count → DidWhole (CommandLine.Show script v lenient true) run result
     view_noted said noted it = record {
-      did = record { bytes = it.shown.script; read = it.shown.read; all = it.shown.all; text = text; makes = it.shown.is; wrote = Appends-trans run.written.before mid run.written.after [] text unwritten wrote };
+      did = record { bytes = it.script; read = it.read; all = it.all; text = text; makes = it.is; wrote = Appends-trans run.written.before mid run.written.after [] text unwritten wrote };
       noted = record {
         noted = said;
-        notes_said = it.noted;
-        counted = subst (λ (t : Count). Noted script.quiet t (run.said.after ≡ said) said run.said.after run.errors_failed) it.shown.counted noted;
+        counted = subst (λ (t : Count). Noted script.quiet t (run.said.after ≡ said) said run.said.after run.errors_failed) it.counted noted;
       };
-      status = status ∙ ap (status_of script.strict lenient) it.shown.counted;
+      status = status ∙ ap (status_of script.strict lenient) it.counted;
     }
 
   module _ (lenient : Bool) (status : result ≡ status_of script.strict lenient count) (mid : Option (List ℕ)) (text : List ℕ) (unwritten : Appends run.written.before mid []) (wrote : Appends mid run.written.after text) where

@@ -4,6 +4,7 @@ pub mod Program
 pub mod Naming
 pub mod Acting
 pub mod Runs
+pub mod Turns
 pub mod Words
 unfoldable pub use Words.*
 pub use Acting.*
@@ -12,3 +13,4 @@ unfoldable pub use Program.*
 pub use Runs.*
 pub use Saying.*
 pub use Texts.*
+pub use Turns.*

@@ -1,8 +1,8 @@
 -- What a fault that is named on standard error says of the streams and of the plan.
 use Rattle.std.specs.Prelude.{◌++◌, ◌||◌, ◌≡◌, ◌⊎◌}
-use Rattle.scopectl.specs.Words.{ℕ, ⊤, AppendsPart, Bool, CommandLine, Consumes, Delay, IsAtEnd, List, NamesLine, Notes, Option, PlanFault, PlanValue, PlanWhy, ProgramFault}
+use Rattle.scopectl.specs.Words.{ℕ, ⊤, Bool, CommandLine, Consumes, Delay, IsAtEnd, List, NamesLine, Notes, Option, PlanFault, PlanValue, PlanWhy, ProgramFault}
 use Rattle.scopectl.specs.Words.{Says, ScriptOptions, Some, Watched, false, is_some, length, nat_lt, not, true}
-use Rattle.scopectl.specs.{Program.ReadPlan, Program.has_late, Program.notes_on, Program.notes_wanted, Runs.HasEnded, Runs.Run, Saying.IsSaid, Texts.line_of}
+use Rattle.scopectl.specs.{Program.ReadPlan, Program.has_late, Program.is_noted, Program.notes_wanted, Runs.HasEnded, Runs.Run, Saying.IsSaid, Texts.line_of}
 
 -- ---- a plan's faults
 
@@ -97,28 +97,26 @@ abbrev pub OfNotes : (Failed : Type 0) → ProgramFault → Type 0
 OfNotes Failed ProgramFault.Notes = Failed
 OfNotes Failed other = ⊥
 
--- one line was said, which names a fault that came, behind a beginning of the notes on what the command read
+-- one line was said, which names a fault that came, behind notes that the command wants
 pub record NamesAfter (command : CommandLine) (run : Run) : Type 0 where
-  pub bytes : List ℕ
-  pub read : Consumes run.taken.before run.taken.after bytes
+  pub wanted : is_noted command ≡ true
   pub noted : Option (List ℕ)
-  pub notes : AppendsPart run.said.before noted (notes_on command bytes)
   pub names : NamesFrom noted run (OfNotes (run.errors_failed ≡ true))
 
 -- so of a replay with these notes
 abbrev pub NamesAfterNotes : (notes : Notes) → ScriptOptions → Run → Type 0
 NamesAfterNotes notes script run = (explain trace : Bool) → notes_wanted explain trace ≡ Some notes → NamesAfter (CommandLine.Replay script explain trace) run
 
--- one line was said, which names a fault that came: alone, or behind notes on what the command read
+-- one line was said, which names a fault that came: alone, or behind notes that the command wants
 abbrev pub NamesOf : (command : CommandLine) → Run → Type 0
 NamesOf command run = Names run (λ _. ⊥) ⊎ NamesAfter command run
 
--- behind notes on what the command read that the words say
+-- behind notes that the command of these words wants
 pub record NamesNoted (words : List (List ℕ)) (run : Run) : Type 0 where
   pub command : CommandLine
   pub says : Says words command
   pub names : NamesAfter command run
 
--- one line was said, which names a fault that came; where notes are wanted it stands behind a beginning of them
+-- one line was said, which names a fault that came; it stands behind notes only if these are wanted
 abbrev pub NamesAny : (words : List (List ℕ)) → Run → Type 0
 NamesAny words run = Names run (IsOfQuote words run.taken.before run.taken.after) ⊎ NamesNoted words run

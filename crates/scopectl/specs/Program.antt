@@ -2,7 +2,7 @@
 use Rattle.std.specs.Prelude.{◌&&◌, ◌++◌, ◌-◌, ◌∷◌, ◌≡◌, ◌⊎◌}
 use Rattle.scopectl.specs.Words.{[], ℕ, AllowedText, Answers, Appends, AppendsPart, AsksFor, Between, Bool, CommandLine, Consumes, Count, Delay, DumpFormat, Err}
 use Rattle.scopectl.specs.Words.{IsAtEnd, IsNoRequest, IsPageOf, IsScript, LEVEL_LIMIT, Limits, LineFault, List, Name, None, Notes, Ok, Option, PartText, PictureOptions, PlanValue, Result, SayPlan}
-use Rattle.scopectl.specs.Words.{Says, SaysNone, ScriptOptions, Some, TreeOptions, TreePart, View, ViewOptions, count_of_script, false, lines_of, list_any, no_refusals, notes_text, realm_of_script}
+use Rattle.scopectl.specs.Words.{Says, SaysNone, ScriptOptions, Some, TreeOptions, TreePart, View, ViewOptions, count_of_script, false, lines_of, is_some, list_any, no_refusals, realm_of_script}
 use Rattle.scopectl.specs.Words.{replies_of, same_name, shown_text, stamps_of_script, true, unwrap_or, whole}
 use Rattle.command_line.specs.declared.faults.LineFault.TheVariants.{Memory}
 use Rattle.run_picture.specs.declared.view.View.{View as Seen}
@@ -183,20 +183,15 @@ notes_wanted true true = Some Notes.All
 
 -- what was said of the lines of a script: the notes that are wanted, and how many were refused
 abbrev pub ToldNotes : Option Notes → ScriptOptions → (bytes : List ℕ) → Run → Type 0
-ToldNotes (Some wanted) script bytes run =
-    SaidNotes (notes_text wanted script.limits bytes) script.quiet (count_of_script script.limits bytes) run.said.before run.said.after run.errors_failed
+ToldNotes (Some wanted) script bytes run = SaidNotes script.quiet (count_of_script script.limits bytes) run.said.after run.errors_failed
 ToldNotes None script bytes run =
     Noted script.quiet (count_of_script script.limits bytes) run.ErrorsKept run.said.before run.said.after run.errors_failed
 
--- the notes that are wanted on the lines of the bytes that were read: those on the lines of a script, and no others
-abbrev pub noted_text : Option Notes → Limits → List ℕ → List ℕ
-noted_text (Some wanted) limits bytes = notes_text wanted limits bytes
-noted_text None limits bytes = []
-
-abbrev pub notes_on : CommandLine → List ℕ → List ℕ
-notes_on (CommandLine.Replay script explain trace) bytes = noted_text (notes_wanted explain trace) script.limits bytes
-notes_on (CommandLine.Show script view lenient explain) bytes = noted_text (notes_wanted explain false) script.limits bytes
-notes_on _ bytes = []
+-- the command wants notes
+abbrev pub is_noted : CommandLine → Bool
+is_noted (CommandLine.Replay script explain trace) = is_some (notes_wanted explain trace)
+is_noted (CommandLine.Show script view lenient explain) = explain
+is_noted _ = false
 
 -- what was said of the bytes that were read: the notes that are wanted on the lines of a script, and how many lines
 -- were refused

@@ -1,6 +1,7 @@
 -- What a run of the program did with its streams.
 use Rattle.std.specs.Prelude.{◌≡◌, ◌⊎◌}
-use Rattle.scopectl.specs.Words.{ℕ, Bool, List, Option, Streams, Turn, Watched, false, true, turn}
+use Rattle.scopectl.specs.Words.{ℕ, Bool, List, Option, Streams, Watched, false, true}
+use Rattle.scopectl.specs.Turns.{Turn, turn}
 
 -- the bytes that were taken from the reader, written, and said on standard error; which stream was left as it was;
 -- whether the reader or the writer ended the run, and whether standard error has failed

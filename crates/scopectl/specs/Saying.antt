@@ -33,10 +33,9 @@ EitherBy false A B = B
 abbrev pub Noted : (quiet : Bool) → Count → (Kept : Type 0) (said said_new : Option (List ℕ)) (failed : Bool) → Type 0
 Noted quiet count Kept said said_new failed = EitherBy (is_silent quiet count) Kept (IsSaid (count_text count) said said_new failed)
 
--- exactly the notes on a script's lines were said, and then that text, if there is something to say
-pub record SaidNotes (notes : List ℕ) (quiet : Bool) (count : Count) (said said_new : Option (List ℕ)) (failed : Bool) : Type 0 where
+-- notes on a script's lines were said, and then that text, if there is something to say
+pub record SaidNotes (quiet : Bool) (count : Count) (said_new : Option (List ℕ)) (failed : Bool) : Type 0 where
   pub noted : Option (List ℕ)
-  pub notes_said : Appends said noted notes
   pub counted : Noted quiet count (said_new ≡ noted) noted said_new failed
 
 -- some text was said

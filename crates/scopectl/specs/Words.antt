@@ -15,12 +15,12 @@ pub use Rattle.scope_rules.specs.Names.{same_name}
 pub use Rattle.scope_rules.specs.declared.types.{capacity.Limits.Limits, capacity.TheConstants.LEVEL_LIMIT, names.Name.Name}
 pub use Rattle.scope_script.specs.{Running.RunsPartly, Streams.AppendsPart, Tallies.no_refusals}
 pub use Rattle.scope_script.specs.declared.{session.run.Mode.TheVariants.Replies, session.run.ScriptFault.ScriptFault, session.tally.Tally.Tally, streams.watched.Watched.Watched}
-pub use Rattle.script_jobs.specs.Jobs.{NotedPartly, ReadSome, Replayed, ReplayedNoted, ReplayedPartly, Showed, ShowedNoted, shown_text}
-pub use Rattle.script_jobs.specs.{Counts.count_of_script, Made.IsScript, Paging.Paged, Turns.Turn, Turns.turn}
-pub use Rattle.script_jobs.specs.declared.{between.Between.Between, counting.Count.Count, notes.Notes.Notes, notes.Notes.TheVariants.Refusals, noting.NotedFault.NotedFault, showing.View.View}
+pub use Rattle.script_jobs.specs.Jobs.{ReadSome, Replayed, Showed, shown_text}
+pub use Rattle.script_jobs.specs.{Counts.count_of_script, Made.IsScript, Paging.Paged}
+pub use Rattle.script_jobs.specs.declared.{between.Between.Between, counting.Count.Count, notes.Notes.Notes, noting.NotedFault.NotedFault, showing.View.View}
 pub use Rattle.tree_dump.specs.declared.parts.TreePart.{TreePart}
 pub use Rattle.scopectl.specs.declared.fault.ProgramFault.TheVariants.{Cancelled, Lost, Memory, NoOffer, PlanLine, Read, Rejected, Strange, Time, Write}
 pub use Rattle.scopectl.specs.declared.{fault.ProgramFault.ProgramFault, streams.Streams.Streams}
 unfoldable pub use Rattle.quote_plan.specs.{AnswerText.answer_text, PlanReading.lines_of}
 unfoldable pub use Rattle.scope_script.specs.Sessions.{realm_of_script, replies_of}
-unfoldable pub use Rattle.script_jobs.specs.{Notes.notes_text, Times.stamps_of_script}
+unfoldable pub use Rattle.script_jobs.specs.Times.{stamps_of_script}

@@ -1,17 +1,11 @@
 -- What is kept of a line as it grows, and what it decides.
 use Rattle.std.specs.Prelude.{◌++◌, ◌+◌, ◌-◌, ◌<◌, ◌==◌, ◌∷◌, ◌≡◌, ◌≤◌}
-use Rattle.script_jobs.specs.{[], ℕ, BadWord, Begun.Begun, Bool, KEPT_LIMIT, LINE_LIMIT, List, None, begun_by, capped, false, grown, grown_by, is_blank, kept}
-use Rattle.script_jobs.specs.{length, line_said, nat_lt, no_line, said, take, true}
-use Rattle.script_jobs.proofs.Words.{◌∙◌, ap, append-nil, append_assoc, arith, eqb-true, grown_kept, length-append, length-take, lt-ltb, ltb-false, ltb-true, refl, said_kept, suc, sym, take_all, zero}
+use Rattle.script_jobs.specs.{[], ℕ, BadWord, Begun.Begun, Bool, KEPT_LIMIT, LINE_LIMIT, List, None, capped, false, grown_by, is_blank, kept}
+use Rattle.script_jobs.specs.{length, line_said, nat_lt, said, take, true}
+use Rattle.script_jobs.proofs.Words.{◌∙◌, ap, append-nil, append_assoc, arith, eqb-true, grown_kept, length-take, lt-ltb, ltb-false, ltb-true, refl, said_kept, suc, sym, take_all, zero}
 use Rattle.scope_script.specs.KeptLines.{grown_by as plain_grown_by}
 
 -- ---- the first bytes
-
--- those of the first bytes and more are those of all bytes and more
-take_taken : (n : ℕ) (xs ys : List ℕ) → take n (take n xs ++ ys) ≡ take n (xs ++ ys)
-take_taken zero xs ys = refl
-take_taken (suc n) [] ys = refl
-take_taken (suc n) (x ∷ xs) ys = ap (λ l. x ∷ l) (take_taken n xs ys)
 
 -- of a short text they are all
 first_all : (line : List ℕ) → length line ≤ KEPT_LIMIT → take KEPT_LIMIT line ≡ line
@@ -28,6 +22,11 @@ fits_take zero (x ∷ xs) ys short = absurd (omega (arith, short))
 fits_take (suc n) (x ∷ xs) ys short =
     let same : suc n - length (x ∷ xs) ≡ n - length xs = omega arith in
     ap (λ l. x ∷ l) (ap (λ m. xs ++ take m ys) same ∙ fits_take n xs ys (omega (arith, short)))
+
+-- what is kept of a line that goes on: its first bytes, and how many it has
+pub grown_so : (begun : Begun) (bytes first : List ℕ) (n : ℕ) → first ≡ take KEPT_LIMIT (begun.first ++ bytes) → n ≡ capped (begun.bytes + length bytes) → (let x : Begun = record { first = first; bytes = n } in x) ≡ grown_by begun bytes
+unfolding grown_by
+grown_so begun bytes first n is many = λ i. record { first = is i; bytes = many i }
 
 -- ---- what they decide
 
@@ -69,55 +68,22 @@ plain_grows line [] = ap kept (sym (append-nil line))
 plain_grows line (b ∷ bytes) =
     ap (λ k. plain_grown_by k bytes) (grown_kept line b) ∙ (plain_grows (line ++ b ∷ []) bytes ∙ ap kept (append_assoc line (b ∷ []) bytes))
 
--- ---- more bytes
-
-capped_more : (n m : ℕ) → capped (capped (n + 1) + m) ≡ capped (n + suc m)
-capped_more n m = omega arith
-
-first_more : (first : List ℕ) (b : ℕ) (bytes : List ℕ) → take KEPT_LIMIT (take KEPT_LIMIT (first ++ b ∷ []) ++ bytes) ≡ take KEPT_LIMIT (first ++ b ∷ bytes)
-first_more first b bytes = take_taken KEPT_LIMIT (first ++ b ∷ []) bytes ∙ ap (take KEPT_LIMIT) (append_assoc first (b ∷ []) bytes)
-
-pub same_begun : (first first' : List ℕ) (n n' : ℕ) → first ≡ first' → n ≡ n' → (let x : Begun = record { first = first; bytes = n } in x) ≡ record { first = first'; bytes = n' }
-same_begun first first' n n' p q = λ i. record { first = p i; bytes = q i }
-
--- what is kept of a line that goes on: its first bytes, and how many it has
-pub grows_all : (first : List ℕ) (n : ℕ) (bytes : List ℕ) → length first ≤ KEPT_LIMIT → n ≤ 18446744073709551615
-    → grown_by (record { first = first; bytes = n }) bytes ≡ record { first = take KEPT_LIMIT (first ++ bytes); bytes = capped (n + length bytes) }
-unfolding grown_by grown
-grows_all first n [] short few =
-    same_begun _ _ _ _ (sym (ap (take KEPT_LIMIT) (append-nil first) ∙ first_all first short)) (omega (arith, few))
-grows_all first n (b ∷ bytes) short few =
-    grows_all (take KEPT_LIMIT (first ++ b ∷ [])) (capped (n + 1)) bytes (omega (arith, length-take KEPT_LIMIT (first ++ b ∷ []))) (omega arith)
-    ∙ same_begun _ _ _ _ (first_more first b bytes) (capped_more n (length bytes))
-
--- what is kept of a line grows as the line does
-pub grown_begun : (line : List ℕ) (b : ℕ) → grown (begun_by line) b ≡ begun_by (line ++ b ∷ [])
-unfolding grown begun_by
-grown_begun line b =
-    same_begun _ _ _ _ (take_taken KEPT_LIMIT line (b ∷ [])) (omega (arith, length-append line (b ∷ [])))
-
-pub none_begun : begun_by [] ≡ no_line
-unfolding begun_by
-none_begun = refl
-
-first_grown : (begun : Begun) (bytes : List ℕ) → length begun.first ≤ KEPT_LIMIT → (grown_by begun bytes).first ≡ take KEPT_LIMIT (begun.first ++ bytes)
-unfolding grown_by grown
-first_grown begun [] short = sym (ap (take KEPT_LIMIT) (append-nil begun.first) ∙ first_all begun.first short)
-first_grown begun (b ∷ bytes) short =
-    first_grown (grown begun b) bytes (omega (arith, length-take KEPT_LIMIT (begun.first ++ b ∷ []))) ∙ first_more begun.first b bytes
-
 -- ---- the script as it is for its replies
+
+first_grown : (begun : Begun) (bytes : List ℕ) → (grown_by begun bytes).first ≡ take KEPT_LIMIT (begun.first ++ bytes)
+unfolding grown_by
+first_grown begun bytes = refl
 
 -- a line that goes on by the bytes says what it says there
 pub plain_said : (begun : Begun) (bytes : List ℕ) → length begun.first ≤ KEPT_LIMIT → line_said (grown_by begun bytes).first ≡ said (plain_grown_by (kept begun.first) bytes)
 plain_said begun bytes short =
-    ap line_said (first_grown begun bytes short)
+    ap line_said (first_grown begun bytes)
     ∙ (said_first (begun.first ++ bytes) ∙ (sym (said_kept (begun.first ++ bytes)) ∙ ap said (sym (plain_grows begun.first bytes))))
 
 -- and is begun as it is there
 pub plain_begun : (begun : Begun) (bytes : List ℕ) → length begun.first ≤ KEPT_LIMIT → kept (grown_by begun bytes).first ≡ plain_grown_by (kept begun.first) bytes
 plain_begun begun bytes short =
-    ap kept (first_grown begun bytes short) ∙ (kept_first (begun.first ++ bytes) ∙ sym (plain_grows begun.first bytes))
+    ap kept (first_grown begun bytes) ∙ (kept_first (begun.first ++ bytes) ∙ sym (plain_grows begun.first bytes))
 
 -- ---- a line that is begun at the end
 

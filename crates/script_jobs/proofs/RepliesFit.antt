@@ -1,10 +1,10 @@
 -- A command has a reason just if its reply is a refusal.
 use Rattle.std.specs.Prelude.{if◌then◌else◌, ◌||◌, ◌≡◌}
-use Rattle.script_jobs.specs.{ℕ, Ask, Bool, Checked, Do, Err, Event, EventsFit, History, None, NotJoined, Ok, Option, Origin, Outcome, QueriesFit, Query, Realm, Refusal, RepliesFit, Reply}
-use Rattle.script_jobs.specs.{Result, Retire, RetirementsFit, Some, answer_to, answering, base_of, binding_reply, check_of, checks, command_reason, event_reply_of, false, fault_reply, followed}
-use Rattle.script_jobs.specs.{is_already, joined, joins, list_any, outcome, outcome_check, query_check, refusal_said, refused_alone, refused_or, replied, reply_to, result_reply}
-use Rattle.script_jobs.specs.{retire_check, row_check, scope_check, then_check, told_base, true}
-use Rattle.script_jobs.proofs.Words.{◌∙◌, ap, checks_at, eq-eqb, list_any-push, ok_or, opening_stays, outcome_there, owner_passed, refl, scope_passes}
+use Rattle.script_jobs.specs.{ℕ, Ask, Bool, Checked, Command, Do, Err, Event, EventsFit, History, None, NotJoined, Ok, Option, Origin, Outcome, QueriesFit, Query, Realm, Refusal, RepliesFit, Reply}
+use Rattle.script_jobs.specs.{Result, Retire, RetirementsFit, Some, answer_to, answering, base_of, binding_reply, check_of, checks, command_reason, command_why, event_reply_of, false, fault_reply, followed}
+use Rattle.script_jobs.specs.{is_already, is_err, is_refused, is_some, joined, joins, list_any, outcome, outcome_check, query_check, refusal_said, refused_alone, refused_or, refusing, replied, reply_to, result_reply}
+use Rattle.script_jobs.specs.{retire_check, row_check, scope_check, then_check, told_base, true, why_if, Explained}
+use Rattle.script_jobs.proofs.Words.{◌∙◌, ap, checks_at, eq-eqb, list_any-push, ok_or, opening_stays, outcome_there, owner_passed, refl, scope_passes, sym}
 
 -- ---- events
 
@@ -85,3 +85,16 @@ unfolding reply_to command_reason
 replies_fit events retirements queries realm (Do e) = do_fits (check_of realm.limits realm.history e) (is_already realm.history e) (event_reply_of realm.history e) (told_fits realm e) ∙ events realm.limits realm.history e
 replies_fit events retirements queries realm (Retire actor) = retire_fits (retire_check realm.history actor) (base_of realm.history) ∙ retirements realm.limits realm.history actor
 replies_fit events retirements queries realm (Ask asked) = query_fits realm.history asked ∙ queries realm.limits realm.history asked
+
+-- ---- just a refused command has a reason
+
+err_said : (reply : Reply) → is_refused reply ≡ is_err (refusal_said reply)
+err_said (Reply.Refused r) = refl
+err_said _ = refl
+
+err_of : (e : Explained) → is_err (refusing e) ≡ is_some (why_if e)
+err_of (Ok done) = refl
+err_of (Err r) = refl
+
+pub reason_if_refused : RepliesFit → (realm : Realm) (c : Command) → is_some (command_why realm c) ≡ is_refused (reply_to realm c)
+reason_if_refused fit realm c = sym (err_said (reply_to realm c) ∙ (ap is_err (fit realm c) ∙ err_of (command_reason realm c)))

@@ -8,4 +8,4 @@ pub use Rattle.scope_index.proofs.TaskLists.{if_one, tasks_forked, tasks_kept}
 pub use Rattle.scope_rules.proofs.{Accepted.checks_at, Growing.opening_stays, Joined.outcome_there, Numbers.list_any-push, PassedRows.owner_passed, Stages.settled_stays}
 pub use Rattle.scope_script.proofs.Scripts.{after_append, after_none, reply_none, told_more}
 pub use Rattle.scope_script.proofs.Taken.{Taken, all_replied, leaves_rest, stops_taking, takes_line, takes_none}
-pub use Rattle.scope_script.proofs.{Growing.grown_kept, Growing.none_kept, Growing.said_kept, Kept.script_leaves, Kept.script_replies, Kept.script_tallies, Progress.part_of_all, Progress.part_of_part}
+pub use Rattle.scope_script.proofs.{Growing.grown_kept, Growing.none_kept, Growing.said_kept, Progress.UnderWay, Progress.begins_run, Progress.ends_tallied, Progress.goes_on, Progress.reads_none, Progress.stops_ending, Progress.stops_reading, Progress.stops_within}

@@ -1,5 +1,5 @@
 -- What is kept of a line that comes piece by piece, so that a note on it can be made.
-use Rattle.std.specs.Prelude.{◌++◌, ◌+◌, ◌∷◌, if◌then◌else◌}
+use Rattle.std.specs.Prelude.{◌++◌, ◌+◌, if◌then◌else◌}
 use Rattle.script_jobs.specs.Words.{[], ℕ, KEPT_LIMIT, LINE_LIMIT, List, Option, Some, TooLong, WordFault, fault_of, length, min, nat_lt, take}
 
 -- the first bytes of a line, one more than a line may have, and how many bytes it has
@@ -15,18 +15,9 @@ capped n = min n 18446744073709551615
 abbrev pub no_line : Begun
 no_line = record { first = []; bytes = 0 }
 
--- what is kept of a line
-unfoldable pub begun_by : List ℕ → Begun
-begun_by line = record { first = take KEPT_LIMIT line; bytes = capped (length line) }
-
--- what is kept of it once it goes on with a byte
-unfoldable pub grown : Begun → ℕ → Begun
-grown begun b = record { first = take KEPT_LIMIT (begun.first ++ b ∷ []); bytes = capped (begun.bytes + 1) }
-
--- and with more bytes
+-- what is kept of it once it goes on with more bytes
 unfoldable pub grown_by : Begun → List ℕ → Begun
-grown_by begun [] = begun
-grown_by begun (b ∷ bytes) = grown_by (grown begun b) bytes
+grown_by begun bytes = record { first = take KEPT_LIMIT (begun.first ++ bytes); bytes = capped (begun.bytes + length bytes) }
 
 -- why the line is no command, if it is none: it has too many bytes, or a field is wrong
 abbrev pub fault_in : Begun → Option WordFault

@@ -1,7 +1,6 @@
 -- The first line by which two texts differ.
 use Rattle.std.specs.Prelude.{◌++◌, ◌+◌, ◌∷◌, ◌≡◌, ◌≢◌, ◌⊎◌}
-use Rattle.script_jobs.specs.Words.{[], ℕ, CutsLine, List, codes, decimal, false, flat_map, has_feed, length}
-use Rattle.refusal_reasons.specs.Shown.{shown_text}
+use Rattle.script_jobs.specs.Words.{[], ℕ, CutsLine, List, false, flat_map, has_feed, length}
 
 -- a line with its line feed
 abbrev pub ended : List ℕ → List ℕ
@@ -29,8 +28,3 @@ pub record DiffersAt (number : ℕ) (wanted given one other : List ℕ) : Type 0
   pub one_is : IsFirst wanted_rest one
   pub other_is : IsFirst given_rest other
   pub differ : wanted_rest ≢ given_rest
-
--- how the difference is shown
-abbrev pub difference_text : (number : ℕ) (one other : List ℕ) → List ℕ
-difference_text number one other =
-    codes "line " ++ (decimal number ++ (codes "\n  expected: " ++ (shown_text one ++ (codes "\n  replied:  " ++ (shown_text other ++ codes "\n")))))

@@ -1,8 +1,8 @@
 -- What a job on a script has read and made.
 use Rattle.std.specs.Prelude.{◌++◌, ◌∷◌, ◌≡◌}
-use Rattle.script_jobs.specs.Words.{[], ℕ, Appends, AppendsPart, Clock, Consumes, Count, Dump, History, IsAtEnd, Limits, List, None, Notes, Option, Some, TimedDump, Timeline}
+use Rattle.script_jobs.specs.Words.{[], ℕ, Appends, Clock, Consumes, Count, Dump, History, IsAtEnd, Limits, List, None, Option, Some, TimedDump, Timeline}
 use Rattle.script_jobs.specs.Words.{TraceEvents, Tree, TreePart, View, clock_by, drawn_text, dump_text, part_text, realm_of_script, replies_of, timed_dump_text, trace_text}
-use Rattle.script_jobs.specs.{Between.seen_between, Counts.count_of_script, Notes.notes_text, Times.Stamps, Times.stamps_of_script, Turns.Turn}
+use Rattle.script_jobs.specs.{Between.seen_between, Counts.count_of_script, Times.Stamps, Times.stamps_of_script}
 
 -- all bytes were read, and exactly the replies to them were written, in a realm of these limits, which refused so many
 -- lines
@@ -12,18 +12,6 @@ pub record Replayed (unread unread_new written written_new : Option (List ℕ)) 
   pub all : IsAtEnd unread_new
   pub wrote : Appends written written_new (replies_of limits script)
   pub counted : count ≡ count_of_script limits script
-
--- the same, and exactly the notes on the script's lines were said
-pub record ReplayedNoted (taken written said : Turn) (limits : Limits) (notes : Notes) (count : Count) : Type 0 where
-  pub replay : Replayed taken.before taken.after written.before written.after limits count
-  pub noted : Appends said.before said.after (notes_text notes limits replay.script)
-
--- a fault ended the replay: a beginning of the replies to what was read was written, and one of the notes on it was said
-pub record ReplayedPartly (taken written said : Turn) (limits : Limits) (notes : Notes) : Type 0 where
-  pub script : List ℕ
-  pub read : Consumes taken.before taken.after script
-  pub wrote : AppendsPart written.before written.after (replies_of limits script)
-  pub noted : AppendsPart said.before said.after (notes_text notes limits script)
 
 -- the clock of a tree: without times there is none
 abbrev pub clock_in : History → Stamps → Clock
@@ -50,17 +38,6 @@ pub record Showed (unread unread_new : Option (List ℕ)) (limits : Limits) (vie
   pub all : IsAtEnd unread_new
   pub is : text ≡ shown_text view limits (realm_of_script limits script).history (stamps_of_script limits script)
   pub counted : count ≡ count_of_script limits script
-
--- the same, and exactly the notes on the script's lines were said
-pub record ShowedNoted (taken said : Turn) (limits : Limits) (view : View) (wanted : Notes) (text : List ℕ) (count : Count) : Type 0 where
-  pub shown : Showed taken.before taken.after limits view text count
-  pub noted : Appends said.before said.after (notes_text wanted limits shown.script)
-
--- some bytes were read, and a beginning of the notes on them was said
-pub record NotedPartly (taken said : Turn) (limits : Limits) (wanted : Notes) : Type 0 where
-  pub script : List ℕ
-  pub read : Consumes taken.before taken.after script
-  pub noted : AppendsPart said.before said.after (notes_text wanted limits script)
 
 -- some bytes were read
 pub record ReadSome (unread unread_new : Option (List ℕ)) : Type 0 where

@@ -6,15 +6,12 @@ pub mod Noting
 pub mod Jobs
 pub mod Passed
 pub mod Whys
-pub mod Notes
 pub mod Scripts
 pub mod Prompting
 pub mod Fits
-pub mod NoteLaws
 pub mod LineLaws
 pub mod Times
 pub mod Made
-pub mod Turns
 pub mod Paging
 pub mod Words
 unfoldable pub use Words.*
@@ -26,15 +23,12 @@ pub use Fits.*
 pub use Jobs.*
 unfoldable pub use LineLaws.*
 pub use Made.*
-pub use NoteLaws.*
-unfoldable pub use Notes.*
 pub use Noting.*
 pub use Paging.*
 pub use Passed.*
 pub use Prompting.*
 pub use Scripts.*
 unfoldable pub use Times.*
-pub use Turns.*
 unfoldable pub use Whys.*
 pub use Made.{ended}
 pub use Rattle.script_jobs.specs.declared.session.NotedScript.{NotedScript}

@@ -1,5 +1,5 @@
 -- Why a line is refused.
-use Rattle.script_jobs.specs.Words.{ℕ, Ask, Command, Do, Err, Explained, List, None, Ok, Option, Realm, Retire, Some, Why, codes, event_reason, line_fault_text, query_reason, retire_reason, sentence}
+use Rattle.script_jobs.specs.Words.{Ask, Command, Do, Err, Explained, None, Ok, Option, Realm, Retire, Some, Why, event_reason, query_reason, retire_reason}
 
 -- what is in the way of the command in the realm, if anything does
 unfoldable pub command_reason : Realm → Command → Explained
@@ -15,10 +15,3 @@ why_if (Err r) = Some (Why.Refused r)
 -- why the command is refused in the realm, if it is
 abbrev pub command_why : Realm → Command → Option Why
 command_why realm c = why_if (command_reason realm c)
-
--- the sentence that says why this line is refused, if of each event the line is known that recorded it
-abbrev pub why_text : (lines : List ℕ) → List ℕ → Why → List ℕ
-why_text lines line (Why.Refused r) = sentence lines r
-why_text lines line (Why.BadWord (Some fault)) = line_fault_text line fault
-why_text lines line (Why.BadWord None) = codes "the line is not a command"
-why_text lines line Why.Cut = codes "the line does not end with a line feed"

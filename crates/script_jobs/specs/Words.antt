@@ -5,8 +5,8 @@ pub use Rattle.std.specs.{BTreeMap.is_at, Cmp.Equal-is, Fmt.decimal, Io.KnownByt
 pub use Rattle.std.specs.{List.flat_map, List.list_all, List.list_any, List.range_with_len, Map.lookup, Option.option_and_then, Option.option_map_or, Ordering.nat_cmp, Str.bytes_eq}
 pub use Rattle.std.specs.declared.result.Result.{Result}
 pub use Rattle.refusal_reasons.specs.Fits.{EventsFit, QueriesFit, RetirementsFit, refused_alone, refusing}
-pub use Rattle.refusal_reasons.specs.{FaultSentences.line_fault_text, LinePlaces.picture_text, Places.is_pending, Reasons.Explained, Sentences.sentence}
-pub use Rattle.refusal_reasons.specs.declared.{faults.WordFault.WordFault, faults.WordFault.TheVariants.TooLong, line_places.Place.Place}
+pub use Rattle.refusal_reasons.specs.{Places.is_pending, Reasons.Explained}
+pub use Rattle.refusal_reasons.specs.declared.{faults.WordFault.WordFault, faults.WordFault.TheVariants.TooLong}
 pub use Rattle.run_picture.specs.{Page.IsPageOf, Picture.drawn_text, Trace.trace_text}
 pub use Rattle.scope_book.specs.Books.{history_of, limits_of, realm_of}
 pub use Rattle.scope_rules.specs.{Checks.Checked, Checks.scope_check, History.History, History.followed, History.is_fork, History.task_numbers, History.tasks, Origin.Origin, Origin.the_start}
@@ -28,7 +28,7 @@ pub use Rattle.script_jobs.specs.declared.notes.Notes.TheVariants.{All, Refusals
 pub use Rattle.script_jobs.specs.declared.showing.View.TheVariants.{Dump, TimedDump, Timeline, TraceEvents, Tree}
 pub use Rattle.script_jobs.specs.declared.{begun.TheConstants.KEPT_LIMIT, between.Between.Between, counting.Count.Count, notes.Notes.Notes, showing.View.View, times.Times.Times, whys.Why.Why}
 unfoldable pub use Rattle.std.specs.Fmt.{digits}
-unfoldable pub use Rattle.refusal_reasons.specs.{Faults.fault_of, Fits.query_check, LinePlaces.place_of, Reasons.event_reason, Reasons.query_reason, Reasons.retire_reason}
+unfoldable pub use Rattle.refusal_reasons.specs.{Faults.fault_of, Fits.query_check, Reasons.event_reason, Reasons.query_reason, Reasons.retire_reason}
 unfoldable pub use Rattle.scope_rules.specs.{Checks.checks, Checks.then_check, Completions.is_task_of, History.forking, Legal.Legal, Nests.tasks_of, Outcomes.outcome, Replies.base_of}
 unfoldable pub use Rattle.scope_rules.specs.{Replies.binding_reply, Replies.fault_reply, Replies.outcome_check, Replies.result_reply, Scopes.joined, Table.retire_check, Table.row_check, Tasks.stage}
 unfoldable pub use Rattle.scope_script.specs.Sessions.{line_reply, realm_after_line, realm_of_script, replies_of}

@@ -1,5 +1,5 @@
 //! The line that is begun, as far as a note on it needs it.
-ghost use Rattle.std.specs.Prelude.{◌≡◌, ◌==◌, ◌++◌, ◌≤◌, [], length, take};
+ghost use Rattle.std.specs.Prelude.{◌≡◌, ◌==◌, ◌≤◌, length, take};
 ghost use Rattle.script_jobs.specs.Begun.{fault_in, grown_by, no_line};
 
 use arrayvec::ArrayVec;

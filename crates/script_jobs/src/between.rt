@@ -1,6 +1,6 @@
 //! Which events of a run are drawn, by their times.
-ghost use Rattle.std.specs.Prelude.{◌≡◌, ◌≤◌};
-ghost use Rattle.script_jobs.specs.{count_before, from_by, length, seen_between, to_by};
+ghost use Rattle.std.specs.Prelude.{◌≡◌};
+ghost use Rattle.script_jobs.specs.{count_before, from_by, seen_between, to_by};
 
 use run_picture::View;
 

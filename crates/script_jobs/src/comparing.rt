@@ -1,6 +1,6 @@
 //! The first line by which replies differ from those that were expected.
 ghost use Rattle.std.specs.Prelude.{◌≡◌};
-ghost use Rattle.script_jobs.specs.{BeginAlike, DiffersAt, IfSome, IsFirst, MatchOption, Some, difference_text};
+ghost use Rattle.script_jobs.specs.{BeginAlike, DiffersAt, IfSome, IsFirst, MatchOption};
 
 use refusal_reasons::ShownBytes;
 use scope_script::first_line;
@@ -20,8 +20,6 @@ pub struct Difference<'a> {
 
 /// The number of the line, and both lines, each on a line of its own.
 impl fmt::Display for Difference<'_> {
-    ghost output = { λ d. Some (difference_text d.number d.wanted.now d.given.now) };
-
     fn fmt<W: fmt::Write>(&self, f: &mut fmt::Formatter<W>) -> fmt::Result {
         let wanted = ShownBytes(self.wanted);
         let given = ShownBytes(self.given);

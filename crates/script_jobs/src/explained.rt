@@ -1,7 +1,6 @@
 //! What a script leaves, as it is shown, with notes on its lines.
 ghost use Rattle.std.specs.Prelude.{◌≡◌, ◌⊎◌};
-ghost use Rattle.script_jobs.specs.{[], Appends, AppendsPart, IfOk, IsErrOf, Limits, NotedPartly, OnErr, OnOk, ShowedNoted, bytes_note, end_note, false, noted_bytes, noted_of, notes_begin};
-ghost use Rattle.script_jobs.specs.{notes_text, string_bytes, true, turn};
+ghost use Rattle.script_jobs.specs.{[], Appends, IfOk, IsErrOf, OnErr, OnOk, ReadSome, Showed, false, string_bytes, true};
 
 use crate::Notes;
 use crate::noting::{NOTED_PIECE, NotedFault};
@@ -30,8 +29,8 @@ pub fn shown_noted<R: Read + Drop, W: Write + Drop, E: Write + Drop>(
 ) -> Result<Rendering, NotedFault>
     requires reader { reader.old.failed ≡ false }
     requires writer { writer.old.failed ≡ false }
-    ensures ok { IfOk result (λ s. ShowedNoted (turn R.remaining reader.old reader.new) (turn E.contents errors.old errors.new) limits view wanted (string_bytes s.text) s.count) }
-    ensures part { OnErr result (NotedPartly (turn R.remaining reader.old reader.new) (turn E.contents errors.old errors.new) limits wanted) }
+    ensures ok { IfOk result (λ s. Showed (R.remaining reader.old.inner) (R.remaining reader.new.inner) limits view (string_bytes s.text) s.count) }
+    ensures part { OnErr result (ReadSome (R.remaining reader.old.inner) (R.remaining reader.new.inner)) }
     ensures unwritten { Appends (W.contents writer.old.inner) (W.contents writer.new.inner) [] }
     ensures read { IsErrOf result (NotedFault.Run ScriptFault.Read) → (reader.new.failed ≡ true) ⊎ (reader.new.reads ≡ u64.MAX) }
     ensures read_failed { reader.new.failed ≡ true → IsErrOf result (NotedFault.Run ScriptFault.Read) }
@@ -65,41 +64,21 @@ fn write_notes<E: Write + Drop>(
     script: &[u8],
     errors: &mut Watched<E>,
 ) -> Result<(), NotedFault>
-    ensures said { OnOk result (Appends (E.contents errors.old.inner) (E.contents errors.new.inner) (notes_text wanted limits script.now)) }
     ensures sound { OnOk result (errors.new.failed ≡ errors.old.failed) }
-    ensures part { OnErr result (AppendsPart (E.contents errors.old.inner) (E.contents errors.new.inner) (notes_text wanted limits script.now)) }
     ensures notes { IsErrOf result NotedFault.Notes → errors.new.failed ≡ true }
     ensures notes_failed { errors.old.failed ≡ false → errors.new.failed ≡ true → (IsErrOf result NotedFault.Notes) }
     ensures others { (IsErrOf result (NotedFault.Run ScriptFault.Read) → ⊥) × (IsErrOf result (NotedFault.Run ScriptFault.Write) → ⊥) }
 {
     let mut noted = NotedScript::new(alloc, limits);
-    write_pieces(alloc, &mut noted, wanted, script, errors)
-}
-
-/// Takes the script, which is whole, and writes the notes on it.
-fn write_pieces<E: Write + Drop>(
-    alloc: Global,
-    noted: &mut NotedScript,
-    wanted: Notes,
-    script: &[u8],
-    errors: &mut Watched<E>,
-) -> Result<(), NotedFault>
-    ensures said { (L : Limits) → noted_of noted.old ≡ notes_begin L → OnOk result (Appends (E.contents errors.old.inner) (E.contents errors.new.inner) (notes_text wanted L script.now)) }
-    ensures sound { OnOk result (errors.new.failed ≡ errors.old.failed) }
-    ensures part { (L : Limits) → noted_of noted.old ≡ notes_begin L → OnErr result (AppendsPart (E.contents errors.old.inner) (E.contents errors.new.inner) (notes_text wanted L script.now)) }
-    ensures notes { IsErrOf result NotedFault.Notes → errors.new.failed ≡ true }
-    ensures notes_failed { errors.old.failed ≡ false → errors.new.failed ≡ true → (IsErrOf result NotedFault.Notes) }
-    ensures others { (IsErrOf result (NotedFault.Run ScriptFault.Read) → ⊥) × (IsErrOf result (NotedFault.Run ScriptFault.Write) → ⊥) }
-{
     let mut rest = script;
     while !rest.is_empty() {
         let (piece, others) = rest.split_at(rest.len().min(NOTED_PIECE));
-        match write_piece(alloc, noted, wanted, piece, errors) {
+        match write_piece(alloc, &mut noted, wanted, piece, errors) {
             Ok(()) => rest = others,
             Err(fault) => return Err(fault),
         }
     }
-    write_end(alloc, noted, wanted, errors)
+    write_end(alloc, &mut noted, wanted, errors)
 }
 
 /// Takes a piece of the script, and writes the notes on it.
@@ -110,10 +89,7 @@ fn write_piece<E: Write + Drop>(
     piece: &[u8],
     errors: &mut Watched<E>,
 ) -> Result<(), NotedFault>
-    ensures noted { OnOk result (noted_of noted.new ≡ noted_bytes (noted_of noted.old) piece.now) }
-    ensures said { OnOk result (Appends (E.contents errors.old.inner) (E.contents errors.new.inner) (bytes_note wanted (noted_of noted.old) piece.now)) }
     ensures sound { OnOk result (errors.new.failed ≡ errors.old.failed) }
-    ensures part { OnErr result (AppendsPart (E.contents errors.old.inner) (E.contents errors.new.inner) (bytes_note wanted (noted_of noted.old) piece.now)) }
     ensures notes { IsErrOf result NotedFault.Notes → errors.new.failed ≡ true }
     ensures notes_failed { errors.old.failed ≡ false → errors.new.failed ≡ true → (IsErrOf result NotedFault.Notes) }
     ensures others { (IsErrOf result (NotedFault.Run ScriptFault.Read) → ⊥) × (IsErrOf result (NotedFault.Run ScriptFault.Write) → ⊥) }
@@ -133,9 +109,7 @@ fn write_end<E: Write + Drop>(
     wanted: Notes,
     errors: &mut Watched<E>,
 ) -> Result<(), NotedFault>
-    ensures said { OnOk result (Appends (E.contents errors.old.inner) (E.contents errors.new.inner) (end_note wanted (noted_of noted.old))) }
     ensures sound { OnOk result (errors.new.failed ≡ errors.old.failed) }
-    ensures part { OnErr result (AppendsPart (E.contents errors.old.inner) (E.contents errors.new.inner) (end_note wanted (noted_of noted.old))) }
     ensures notes { IsErrOf result NotedFault.Notes → errors.new.failed ≡ true }
     ensures notes_failed { errors.old.failed ≡ false → errors.new.failed ≡ true → (IsErrOf result NotedFault.Notes) }
     ensures others { (IsErrOf result (NotedFault.Run ScriptFault.Read) → ⊥) × (IsErrOf result (NotedFault.Run ScriptFault.Write) → ⊥) }
@@ -150,9 +124,7 @@ fn write_end<E: Write + Drop>(
 
 /// Writes the notes.
 fn written<E: Write + Drop>(notes: &[u8], errors: &mut Watched<E>) -> Result<(), NotedFault>
-    ensures said { OnOk result (Appends (E.contents errors.old.inner) (E.contents errors.new.inner) notes.now) }
     ensures sound { OnOk result (errors.new.failed ≡ errors.old.failed) }
-    ensures part { OnErr result (AppendsPart (E.contents errors.old.inner) (E.contents errors.new.inner) notes.now) }
     ensures fault { (fault : NotedFault) → IsErrOf result fault → fault ≡ NotedFault.Notes }
     ensures failed { IsErrOf result NotedFault.Notes → errors.new.failed ≡ true }
 {

@@ -1,6 +1,6 @@
-//! That just the refused lines are explained. The function changes nothing: its contract is the law.
+//! Just the refused lines are explained, by the lines that recorded what stands in the way. Each function does nothing: its contract is the law.
 
-ghost use Rattle.script_jobs.specs.{LinesRecord, NotedAreCounted, NotesAreNumbered, RefusedAreNoted, RepliesFit};
+ghost use Rattle.script_jobs.specs.{LinesRecord, RepliesFit};
 
 use refusal_reasons::laws::reasons_fit;
 
@@ -10,16 +10,6 @@ pub fn replies_fit()
     ensures { RepliesFit }
 {
     reasons_fit();
-}
-
-/// If refusals are explained, just the refused lines have a note, so there are as many notes as refused lines are counted.
-/// Each note begins with the number of its line.
-pub fn notes_fit()
-    ensures noted { RefusedAreNoted }
-    ensures counted { NotedAreCounted }
-    ensures numbered { NotesAreNumbered }
-{
-    replies_fit();
 }
 
 /// A reason names an event by a line of the script: the line is the one whose command recorded that event.

@@ -1,6 +1,6 @@
 //! A random script, line by line.
 ghost use Rattle.std.specs.Prelude.{◌++◌, ◌≡◌};
-ghost use Rattle.script_jobs.specs.{IfOk, IsScript, OnOk, OneMore, ended, is_answered_line, string_bytes, true};
+ghost use Rattle.script_jobs.specs.{IfOk, IsScript, OnOk, OneMore, ended, is_answered_line, string_bytes};
 
 use crate::phrases::Phrases;
 use script_words::laws::line_says_the_command;

@@ -1,6 +1,4 @@
 //! The note of a line.
-ghost use Rattle.script_jobs.specs.{Some, below_text, head_text, note, refused_text, replied_text, why_below};
-
 use crate::whys::{ShownWhy, Why};
 use refusal_reasons::{ShownBytes, ShownPlace, place_of};
 use scope_script::Reply;
@@ -25,8 +23,6 @@ struct ShownHead<'a> {
 }
 
 impl fmt::Display for ShownHead<'_> {
-    ghost output = { λ h. Some (head_text h.number h.line.now) };
-
     fn fmt<W: fmt::Write>(&self, f: &mut fmt::Formatter<W>) -> fmt::Result {
         write!(f, "line {}: {}", self.number, ShownBytes(self.line))
     }
@@ -40,8 +36,6 @@ struct ShownReplied<'a> {
 }
 
 impl fmt::Display for ShownReplied<'_> {
-    ghost output = { λ r. Some (replied_text r.head.number r.head.line.now r.reply.now) };
-
     fn fmt<W: fmt::Write>(&self, f: &mut fmt::Formatter<W>) -> fmt::Result {
         write!(f, "{} -> {}", self.head, self.reply)
     }
@@ -55,8 +49,6 @@ struct ShownRefused<'a> {
 }
 
 impl fmt::Display for ShownRefused<'_> {
-    ghost output = { λ r. Some (refused_text r.head.number r.head.line.now r.why) };
-
     fn fmt<W: fmt::Write>(&self, f: &mut fmt::Formatter<W>) -> fmt::Result {
         match self.why {
             Why::BadWord(Some(fault)) => {
@@ -77,8 +69,6 @@ struct ShownBelow<'a> {
 }
 
 impl fmt::Display for ShownBelow<'_> {
-    ghost output = { λ b. Some (below_text b.line.now b.why) };
-
     fn fmt<W: fmt::Write>(&self, f: &mut fmt::Formatter<W>) -> fmt::Result {
         let line = self.line;
         match self.why {
@@ -100,8 +90,6 @@ struct ShownExplained<'a> {
 }
 
 impl fmt::Display for ShownExplained<'_> {
-    ghost output = { λ e. Some (why_below e.lines.now e.line.now e.why) };
-
     fn fmt<W: fmt::Write>(&self, f: &mut fmt::Formatter<W>) -> fmt::Result {
         let lines = self.lines;
         let line = self.line;
@@ -124,9 +112,6 @@ pub(crate) struct ShownNote<'a> {
 }
 
 impl fmt::Display for ShownNote<'_> {
-    ghost output = { λ n. Some (note n.wanted n.lines.now n.number n.line.now n.reply.now n.why) };
-
-    #[tactic(auto, unfolding(crate::specs::Notes::note))]
     fn fmt<W: fmt::Write>(&self, f: &mut fmt::Formatter<W>) -> fmt::Result {
         let lines = self.lines;
         let line = self.line;

@@ -1,7 +1,7 @@
 //! The replies to a script, with notes on its lines, line by line.
 ghost use Rattle.std.specs.Prelude.{◌<◌, ◌≡◌, ◌⊎◌};
-ghost use Rattle.script_jobs.specs.{[], Appends, AppendsPart, IfOk, IsErrOf, OnErr, OnOk, ReplayedNoted, ReplayedPartly, ReplaysFrom, StopsFrom, after_bytes, bytes_note, bytes_reply};
-ghost use Rattle.script_jobs.specs.{count_in, end_note, end_reply, end_tally, false, history_of, length, noted_bytes, noted_of, notes_begin, plain_of, true, turn};
+ghost use Rattle.script_jobs.specs.{[], Appends, AppendsPart, IfOk, IsErrOf, OnErr, OnOk, Replayed, Replies, ReplaysFrom, RunsPartly, StopsFrom, after_bytes, bytes_reply, end_reply};
+ghost use Rattle.script_jobs.specs.{end_tally, false, length, plain_of, true};
 
 use crate::Notes;
 use crate::counting::Count;
@@ -32,7 +32,7 @@ pub enum NotedFault {
 ///
 /// # Errors
 /// `Run` as `replayed` has it, and `Notes` if the writer of notes failed. What was written is then a beginning of the
-/// replies to what was read, and what was noted is a beginning of the notes on it.
+/// replies to what was read.
 pub fn replayed_noted<R: Read + Drop, W: Write + Drop, E: Write + Drop>(
     alloc: Global,
     limits: Limits,
@@ -43,8 +43,8 @@ pub fn replayed_noted<R: Read + Drop, W: Write + Drop, E: Write + Drop>(
 ) -> Result<Count, NotedFault>
     requires reader { reader.old.failed ≡ false }
     requires writer { writer.old.failed ≡ false }
-    ensures ok { IfOk result (ReplayedNoted (turn R.remaining reader.old reader.new) (turn W.contents writer.old writer.new) (turn E.contents errors.old errors.new) limits wanted) }
-    ensures fault { OnErr result (ReplayedPartly (turn R.remaining reader.old reader.new) (turn W.contents writer.old writer.new) (turn E.contents errors.old errors.new) limits wanted) }
+    ensures ok { IfOk result (Replayed (R.remaining reader.old.inner) (R.remaining reader.new.inner) (W.contents writer.old.inner) (W.contents writer.new.inner) limits) }
+    ensures fault { OnErr result (RunsPartly (R.remaining reader.old.inner) (R.remaining reader.new.inner) (W.contents writer.old.inner) (W.contents writer.new.inner) Replies limits) }
     ensures read { IsErrOf result (NotedFault.Run ScriptFault.Read) → (reader.new.failed ≡ true) ⊎ (reader.new.reads ≡ u64.MAX) }
     ensures read_failed { reader.new.failed ≡ true → IsErrOf result (NotedFault.Run ScriptFault.Read) }
     ensures write { IsErrOf result (NotedFault.Run ScriptFault.Write) → writer.new.failed ≡ true }
@@ -82,11 +82,10 @@ fn read_pieces<R: Read + Drop, W: Write + Drop, E: Write + Drop>(
 ) -> Result<Count, NotedFault>
     requires some { 0 < length piece.old }
     requires replies { replies.old.items ≡ [] }
-    requires notes { notes.old.items ≡ [] }
     requires reader { reader.old.failed ≡ false }
     requires writer { writer.old.failed ≡ false }
-    ensures ok { IfOk result (ReplaysFrom script.old wanted (turn R.remaining reader.old reader.new) (turn W.contents writer.old writer.new) (turn E.contents errors.old errors.new)) }
-    ensures fault { OnErr result (StopsFrom script.old wanted (turn R.remaining reader.old reader.new) (turn W.contents writer.old writer.new) (turn E.contents errors.old errors.new)) }
+    ensures ok { IfOk result (ReplaysFrom script.old (R.remaining reader.old.inner) (R.remaining reader.new.inner) (W.contents writer.old.inner) (W.contents writer.new.inner)) }
+    ensures fault { OnErr result (StopsFrom script.old (R.remaining reader.old.inner) (R.remaining reader.new.inner) (W.contents writer.old.inner) (W.contents writer.new.inner)) }
     ensures read { IsErrOf result (NotedFault.Run ScriptFault.Read) → (reader.new.failed ≡ true) ⊎ (reader.new.reads ≡ u64.MAX) }
     ensures read_failed { reader.new.failed ≡ true → IsErrOf result (NotedFault.Run ScriptFault.Read) }
     ensures write { IsErrOf result (NotedFault.Run ScriptFault.Write) → writer.new.failed ≡ true }
@@ -132,15 +131,11 @@ fn step<W: Write + Drop, E: Write + Drop>(
     notes: &mut Vec<u8>,
 ) -> Result<(), NotedFault>
     requires replies { replies.old.items ≡ [] }
-    requires notes { notes.old.items ≡ [] }
     requires writer { writer.old.failed ≡ false }
     ensures plain { OnOk result (plain_of script.new ≡ after_bytes (plain_of script.old) piece.now) }
-    ensures noted { OnOk result (noted_of script.new ≡ noted_bytes (noted_of script.old) piece.now) }
     ensures wrote { OnOk result (Appends (W.contents writer.old.inner) (W.contents writer.new.inner) (bytes_reply (plain_of script.old) piece.now)) }
-    ensures said { OnOk result (Appends (E.contents errors.old.inner) (E.contents errors.new.inner) (bytes_note wanted (noted_of script.old) piece.now)) }
-    ensures sent { OnOk result ((replies.new.items ≡ []) × (notes.new.items ≡ []) × (writer.new.failed ≡ writer.old.failed) × (errors.new.failed ≡ errors.old.failed)) }
+    ensures sent { OnOk result ((replies.new.items ≡ []) × (writer.new.failed ≡ writer.old.failed) × (errors.new.failed ≡ errors.old.failed)) }
     ensures wrote_part { OnErr result (AppendsPart (W.contents writer.old.inner) (W.contents writer.new.inner) (bytes_reply (plain_of script.old) piece.now)) }
-    ensures said_part { OnErr result (AppendsPart (E.contents errors.old.inner) (E.contents errors.new.inner) (bytes_note wanted (noted_of script.old) piece.now)) }
     ensures write { IsErrOf result (NotedFault.Run ScriptFault.Write) → writer.new.failed ≡ true }
     ensures write_failed { writer.new.failed ≡ true → IsErrOf result (NotedFault.Run ScriptFault.Write) }
     ensures notes { IsErrOf result NotedFault.Notes → errors.new.failed ≡ true }
@@ -167,10 +162,8 @@ pub(crate) fn send<W: Write + Drop, E: Write + Drop>(
 ) -> Result<(), NotedFault>
     requires { writer.old.failed ≡ false }
     ensures wrote { OnOk result (Appends (W.contents writer.old.inner) (W.contents writer.new.inner) replies.now) }
-    ensures said { OnOk result (Appends (E.contents errors.old.inner) (E.contents errors.new.inner) notes.now) }
     ensures sent { OnOk result ((writer.new.failed ≡ false) × (errors.new.failed ≡ errors.old.failed)) }
     ensures wrote_part { OnErr result (AppendsPart (W.contents writer.old.inner) (W.contents writer.new.inner) replies.now) }
-    ensures said_part { OnErr result (AppendsPart (E.contents errors.old.inner) (E.contents errors.new.inner) notes.now) }
     ensures write { IsErrOf result (NotedFault.Run ScriptFault.Write) → writer.new.failed ≡ true }
     ensures write_failed { writer.new.failed ≡ true → IsErrOf result (NotedFault.Run ScriptFault.Write) }
     ensures notes { IsErrOf result NotedFault.Notes → errors.new.failed ≡ true }
@@ -196,15 +189,12 @@ fn finish<W: Write + Drop, E: Write + Drop>(
     notes: &mut Vec<u8>,
 ) -> Result<(), NotedFault>
     requires replies { replies.old.items ≡ [] }
-    requires notes { notes.old.items ≡ [] }
     requires writer { writer.old.failed ≡ false }
     ensures realm { (plain_of script.new).realm ≡ (plain_of script.old).realm }
     ensures tally { OnOk result ((plain_of script.new).tally ≡ end_tally (plain_of script.old)) }
     ensures wrote { OnOk result (Appends (W.contents writer.old.inner) (W.contents writer.new.inner) (end_reply (plain_of script.old))) }
-    ensures said { OnOk result (Appends (E.contents errors.old.inner) (E.contents errors.new.inner) (end_note wanted (noted_of script.old))) }
     ensures sent { OnOk result ((writer.new.failed ≡ false) × (errors.new.failed ≡ errors.old.failed)) }
     ensures wrote_part { OnErr result (AppendsPart (W.contents writer.old.inner) (W.contents writer.new.inner) (end_reply (plain_of script.old))) }
-    ensures said_part { OnErr result (AppendsPart (E.contents errors.old.inner) (E.contents errors.new.inner) (end_note wanted (noted_of script.old))) }
     ensures write { IsErrOf result (NotedFault.Run ScriptFault.Write) → writer.new.failed ≡ true }
     ensures write_failed { writer.new.failed ≡ true → IsErrOf result (NotedFault.Run ScriptFault.Write) }
     ensures notes { IsErrOf result NotedFault.Notes → errors.new.failed ≡ true }

@@ -1,13 +1,14 @@
 //! A script under way whose lines get notes.
 ghost use Rattle.std.specs.Prelude.{◌++◌, ◌∷◌, ◌≡◌};
-ghost use Rattle.script_jobs.specs.{[], AppendsPart, History, IfOk, Legal, OnErr, OnOk, Some, after_bytes, bad_note, bad_word_line, bytes_note, bytes_reply, count_in, done_note};
-ghost use Rattle.script_jobs.specs.{end_note, end_reply, end_tally, history_of, length, limits_of, line_note, line_reply, line_said, lines_after, no_line, note, noted_bytes, noted_of, notes_begin};
-ghost use Rattle.script_jobs.specs.{noting_after, noting_of, plain_of, realm_after, realm_after_line, realm_of, reply_text, reply_to, said_note, string_bytes, tally_after_line, the_beginning};
+ghost use Rattle.script_jobs.specs.{[], AppendsPart, History, Legal, OnErr, OnOk, Some, after_bytes, bad_word_line, bytes_reply, count_in};
+ghost use Rattle.script_jobs.specs.{end_reply, end_tally, history_of, length, limits_of, line_reply, line_said, is_refused, is_some, lines_after, no_line};
+ghost use Rattle.script_jobs.specs.{noting_after, noting_begins, noting_of, plain_of, realm_after, realm_after_line, realm_of, reply_text, reply_to, tally_after_line, the_beginning};
 ghost use Rattle.script_jobs.specs.{with_bad_word, with_reply};
 
 use crate::begun::BegunLine;
 use crate::counting::{Count, count_in, no_refusals, one_more, with_bad_word, with_reply};
 use crate::explained_book::ExplainedBook;
+use crate::laws::replies_fit;
 use crate::notes::{Notes, ShownNote};
 use crate::whys::Why;
 use scope_book::BookState;
@@ -32,7 +33,7 @@ impl NotedScript {
     #[tactic(auto, unfolding(scope_script::specs::KeptLines::kept))]
     pub(crate) fn new(alloc: Global, limits: Limits) -> NotedScript
         ensures plain { plain_of result ≡ the_beginning limits }
-        ensures noted { noted_of result ≡ notes_begin limits }
+        ensures noting { noting_of result ≡ noting_begins limits }
     {
         NotedScript {
             alloc,
@@ -54,11 +55,8 @@ impl NotedScript {
         notes: &mut Vec<u8>,
     ) -> Result<(), AllocError>
         ensures plain { OnOk result (plain_of self.new ≡ after_bytes (plain_of self.old) bytes.now) }
-        ensures noted { OnOk result (noted_of self.new ≡ noted_bytes (noted_of self.old) bytes.now) }
         ensures replies { OnOk result (replies.new.items ≡ replies.old.items ++ bytes_reply (plain_of self.old) bytes.now) }
-        ensures notes { OnOk result (notes.new.items ≡ notes.old.items ++ bytes_note wanted (noted_of self.old) bytes.now) }
         ensures replies_part { OnErr result (AppendsPart (Some replies.old.items) (Some replies.new.items) (bytes_reply (plain_of self.old) bytes.now)) }
-        ensures notes_part { OnErr result (AppendsPart (Some notes.old.items) (Some notes.new.items) (bytes_note wanted (noted_of self.old) bytes.now)) }
     {
         let mut rest = bytes;
         while let Some((line, others)) = first_line(rest) {
@@ -74,7 +72,6 @@ impl NotedScript {
 
     /// Answers the line that is begun, which has ended; the next begins. If memory is refused, `replies` and `notes` stay
     /// as they are.
-    #[tactic(auto, unfolding(crate::specs::Notes::line_note))]
     fn answer(
         &mut self,
         wanted: Notes,
@@ -86,8 +83,7 @@ impl NotedScript {
         ensures noting { OnOk result (noting_of self.new ≡ noting_after (noting_of self.old) (line_said self.old.begun.first)) }
         ensures begun { OnOk result (self.new.begun ≡ no_line) }
         ensures replies { OnOk result (replies.new.items ≡ replies.old.items ++ line_reply (realm_of self.old.book.book) (line_said self.old.begun.first)) }
-        ensures notes { OnOk result (notes.new.items ≡ notes.old.items ++ line_note wanted (noting_of self.old) self.old.begun) }
-        ensures err { OnErr result ((replies.new.items ≡ replies.old.items) × (notes.new.items ≡ notes.old.items)) }
+        ensures err { OnErr result (replies.new.items ≡ replies.old.items) }
     {
         let _legal = self.book.book().limits();
         let said = read_line(self.begun.first());
@@ -113,8 +109,7 @@ impl NotedScript {
         ensures number { self.new.number ≡ self.old.number }
         ensures begun { self.new.begun ≡ self.old.begun }
         ensures replies { OnOk result (replies.new.items ≡ replies.old.items ++ line_reply (realm_of self.old.book.book) said) }
-        ensures notes { OnOk result (notes.new.items ≡ notes.old.items ++ said_note wanted (noting_of self.old) self.old.begun said) }
-        ensures err { OnErr result ((replies.new.items ≡ replies.old.items) × (notes.new.items ≡ notes.old.items)) }
+        ensures err { OnErr result (replies.new.items ≡ replies.old.items) }
     {
         match said {
             Line::Silent => Ok(()),
@@ -137,8 +132,7 @@ impl NotedScript {
         ensures same { (self.new.book ≡ self.old.book) × (self.new.lines ≡ self.old.lines) × (self.new.number ≡ self.old.number) × (self.new.begun ≡ self.old.begun) }
         ensures tally { self.new.tally ≡ with_bad_word self.old.tally }
         ensures replies { OnOk result (replies.new.items ≡ replies.old.items ++ bad_word_line) }
-        ensures notes { OnOk result (notes.new.items ≡ notes.old.items ++ bad_note wanted (noting_of self.old) self.old.begun.first why) }
-        ensures err { OnErr result ((replies.new.items ≡ replies.old.items) × (notes.new.items ≡ notes.old.items)) }
+        ensures err { OnErr result (replies.new.items ≡ replies.old.items) }
     {
         self.tally = with_bad_word(self.tally);
         let reply = Reply::Refused(Refusal::BadWord);
@@ -161,21 +155,21 @@ impl NotedScript {
         ensures number { self.new.number ≡ self.old.number }
         ensures begun { self.new.begun ≡ self.old.begun }
         ensures replies { OnOk result (replies.new.items ≡ replies.old.items ++ (reply_text (reply_to (realm_of self.old.book.book) command) ++ 10 ∷ [])) }
-        ensures notes { OnOk result (notes.new.items ≡ notes.old.items ++ done_note wanted (noting_of self.old) self.old.begun.first command) }
-        ensures err { OnErr result ((replies.new.items ≡ replies.old.items) × (notes.new.items ≡ notes.old.items)) }
+        ensures err { OnErr result (replies.new.items ≡ replies.old.items) }
     {
         let why = self.book.why(&command);
         let before = self.book.book().realm().event_count();
         let reply = self.book.perform(&command)?;
+        replies_fit();
         let note = self.note_of(wanted, &reply, why)?;
         self.record_line(before)?;
         self.tally = with_reply(self.tally, &reply);
         append_both(&reply, &note, replies, notes)
     }
 
-    /// The note of the line that is begun, with this reply, which was refused for that, if it was.
+    /// The note of the line that is begun, with this reply, and why, if that is a refusal.
     fn note_of(&self, wanted: Notes, reply: &Reply, why: Option<Why>) -> Result<String, AllocError>
-        ensures { IfOk result (λ text. string_bytes text ≡ note wanted self.now.lines.items self.now.number self.now.begun.first reply.now why) }
+        requires { is_some why ≡ is_refused reply.now }
     {
         let shown = ShownNote {
             wanted,
@@ -208,7 +202,6 @@ impl NotedScript {
 
     /// Answers the end of the script: a line that is begun then is a bad word. If memory is refused, `replies` and `notes`
     /// stay as they are.
-    #[tactic(auto, unfolding(crate::specs::Notes::cut_note))]
     pub(crate) fn end(
         &mut self,
         wanted: Notes,
@@ -218,8 +211,7 @@ impl NotedScript {
         ensures realm { realm_of self.new.book.book ≡ realm_of self.old.book.book }
         ensures tally { OnOk result (self.new.tally ≡ end_tally (plain_of self.old)) }
         ensures replies { OnOk result (replies.new.items ≡ replies.old.items ++ end_reply (plain_of self.old)) }
-        ensures notes { OnOk result (notes.new.items ≡ notes.old.items ++ end_note wanted (noted_of self.old)) }
-        ensures err { OnErr result ((replies.new.items ≡ replies.old.items) × (notes.new.items ≡ notes.old.items)) }
+        ensures err { OnErr result (replies.new.items ≡ replies.old.items) }
     {
         if self.begun.is_empty() {
             return Ok(());
@@ -250,8 +242,7 @@ fn append_both(
     notes: &mut Vec<u8>,
 ) -> Result<(), AllocError>
     ensures replies { OnOk result (replies.new.items ≡ replies.old.items ++ (reply_text reply.now ++ 10 ∷ [])) }
-    ensures notes { OnOk result (notes.new.items ≡ notes.old.items ++ note.now) }
-    ensures err { OnErr result ((replies.new.items ≡ replies.old.items) × (notes.new.items ≡ notes.old.items)) }
+    ensures err { OnErr result (replies.new.items ≡ replies.old.items) }
 {
     let length = notes.len();
     notes.extend_from_slice(note.as_bytes())?;

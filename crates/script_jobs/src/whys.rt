@@ -1,6 +1,6 @@
 //! Why a line is refused.
 ghost use Rattle.std.specs.Prelude.{◌≡◌};
-ghost use Rattle.script_jobs.specs.{Knows, Some, command_reason, command_why, history_of, realm_of, why_if, why_text};
+ghost use Rattle.script_jobs.specs.{Knows, Some, command_reason, command_why, history_of, realm_of, why_if};
 
 use crate::passed::{PassedTasks, RealmEvents};
 use refusal_reasons::{
@@ -73,8 +73,6 @@ pub(crate) struct ShownWhy<'a> {
 }
 
 impl fmt::Display for ShownWhy<'_> {
-    ghost output = { λ w. Some (why_text w.lines.now w.line.now w.why) };
-
     fn fmt<W: fmt::Write>(&self, f: &mut fmt::Formatter<W>) -> fmt::Result {
         let line = self.line;
         match self.why {

@@ -1,7 +1,7 @@
 use Rattle.std.specs.Prelude.{◌≡◌, ◌⊎◌}
-use Rattle.scopectl.specs.{ℕ, AppendsPart, CameFrom, Err, List, OfNotes, ProgramFault, false, true}
+use Rattle.scopectl.specs.{CameFrom, Err, OfNotes, ProgramFault, false, true}
 use Rattle.scopectl.proofs.Words.{◌∙◌, ap, subst, sym}
-use Rattle.scopectl.proofs.Jobs.{came_of_noted, noted_kept, noted_part, notes_are, read_no_memory, replay_noted, sound_noted, write_no_memory}
+use Rattle.scopectl.proofs.Jobs.{came_of_noted, noted_kept, notes_are, read_no_memory, replay_noted, replayed_part, sound_noted, write_no_memory}
 use Rattle.scopectl.proofs.act.replay_noted.Goals as goal
 
 pub returns-in-Ok-clause-done : goal.returns-in-Ok-clause-done
@@ -10,14 +10,12 @@ returns-in-Ok-clause-done g c =
     (noted_kept c.args.script.quiet c.in-Ok.count (c.note.new.errors ≡ c.replayed_noted.new.errors) (g.E.Write.contents c.note.new.errors.inner ≡ g.E.Write.contents c.replayed_noted.new.errors.inner) (g.E.Write.contents c.replayed_noted.new.errors.inner) (g.E.Write.contents c.note.new.errors.inner) c.note.new.errors.failed (λ kept. cc) c.note.ensures.noted) c.in-Ok.ensures.ok
 
 pub returns-in-Err-clause-fault : goal.returns-in-Err-clause-fault
-returns-in-Err-clause-fault g c = λ explain trace e. noted_part _ explain trace _ _ _ c.in-Err.ensures.fault
+returns-in-Err-clause-fault g c = λ explain trace e. replayed_part _ explain trace _ c.in-Err.ensures.fault
 
 pub returns-in-Err-clause-named : goal.returns-in-Err-clause-named
 returns-in-Err-clause-named g c = λ e explain trace same. record {
-  bytes = c.in-Err.ensures.fault.script;
-  read = c.in-Err.ensures.fault.read;
+  wanted = notes_are explain trace c.args.notes same;
   noted = g.E.Write.contents c.replayed_noted.new.errors.inner;
-  notes = subst (λ (text : List ℕ). AppendsPart (g.E.Write.contents c.args.streams.now.errors.now.inner) (g.E.Write.contents c.replayed_noted.new.errors.inner) text) (notes_are c.args.script explain trace c.args.notes c.in-Err.ensures.fault.script same) c.in-Err.ensures.fault.noted;
   names = record {
     fault = c.of_noted.result;
     came = subst (λ (f : ProgramFault). CameFrom f ((c.replayed_noted.new.reader.failed ≡ true) ⊎ (c.replayed_noted.new.reader.reads ≡ 18446744073709551615)) (c.replayed_noted.new.writer.failed ≡ true) ((c.replayed_noted.new.reader.failed ≡ false) × (c.replayed_noted.new.writer.failed ≡ false)) (OfNotes (c.fail.new.errors.failed ≡ true))) (sym c.of_noted.ensures)

@@ -1,12 +1,8 @@
 use Rattle.std.specs.Prelude.{◌≡◌, ◌⊎◌}
-use Rattle.scopectl.specs.{[], ℕ, CameFrom, Count, Err, Limits, List, OfNotes, Option, ProgramFault, Refusals, ShowedNoted, Turn, View, Write, false, true}
-use Rattle.scopectl.proofs.Words.{◌∙◌, ap, append-nil, subst, sym}
-use Rattle.scopectl.proofs.Jobs.{came_of_noted, made, noted_kept, read_no_memory, sound_noted, view_noted, view_stopped_noted, view_told_part, write_no_memory}
+use Rattle.scopectl.specs.{CameFrom, Err, OfNotes, ProgramFault, Write, false, true}
+use Rattle.scopectl.proofs.Words.{ap, refl, subst, sym}
+use Rattle.scopectl.proofs.Jobs.{came_of_noted, made, noted_kept, read_no_memory, shown_as, sound_noted, view_noted, view_stopped, view_told_part, write_no_memory}
 use Rattle.scopectl.proofs.act.show_noted.Goals as goal
-
--- the view that was shown is the one that the words ask for
-shown_as : (a b : View) (taken said : Turn) (limits : Limits) (text : List ℕ) (count : Count) → a ≡ b → ShowedNoted taken said limits a Refusals text count → ShowedNoted taken said limits b Refusals text count
-shown_as a b taken said limits text count same it = subst (λ (v : View). ShowedNoted taken said limits v Refusals text count) same it
 
 pub returns-in-Ok-clause-done : goal.returns-in-Ok-clause-done
 returns-in-Ok-clause-done g c =
@@ -16,26 +12,22 @@ returns-in-Ok-clause-done g c =
 
 pub returns-in-Ok-clause-fault : goal.returns-in-Ok-clause-fault
 returns-in-Ok-clause-fault g c =
-    λ e. view_told_part c.args.view _ c.args.lenient true _ _ _ (made c.args.view c.args.script c.args.lenient true _ _ _ _ (shown_as _ _ _ _ _ _ _ c.view_of.ensures c.in-Ok.ensures.ok).shown) c.shown_noted.ensures.unwritten (c.tell_shown.ensures.fault e) (c.tell_shown.ensures.failed e)
+    λ e. view_told_part c.args.view _ c.args.lenient true _ _ _ (made c.args.view c.args.script c.args.lenient true _ _ _ _ (shown_as _ _ _ _ _ _ _ c.view_of.ensures c.in-Ok.ensures.ok)) c.shown_noted.ensures.unwritten (c.tell_shown.ensures.fault e) (c.tell_shown.ensures.failed e)
 
 pub returns-in-Err-clause-fault : goal.returns-in-Err-clause-fault
-returns-in-Err-clause-fault g c = λ e. view_stopped_noted c.args.view _ c.args.lenient true _ _ c.in-Err.ensures.part c.shown_noted.ensures.unwritten
+returns-in-Err-clause-fault g c = λ e. view_stopped c.args.view _ c.args.lenient true _ c.in-Err.ensures.part c.shown_noted.ensures.unwritten
 
 pub returns-in-Ok-clause-named : goal.returns-in-Ok-clause-named
 returns-in-Ok-clause-named g c = λ e. record {
-  bytes = c.in-Ok.ensures.ok.shown.script;
-  read = c.in-Ok.ensures.ok.shown.read;
+  wanted = refl;
   noted = g.E.Write.contents c.shown_noted.new.errors.inner;
-  notes = record { part = _; rest = []; whole = sym (append-nil _); appended = c.in-Ok.ensures.ok.noted };
   names = record { fault = Write; came = c.tell_shown.ensures.failed e; line = c.tell_shown.ensures.named e };
 }
 
 pub returns-in-Err-clause-named : goal.returns-in-Err-clause-named
 returns-in-Err-clause-named g c = λ e. record {
-  bytes = c.in-Err.ensures.part.script;
-  read = c.in-Err.ensures.part.read;
+  wanted = refl;
   noted = g.E.Write.contents c.shown_noted.new.errors.inner;
-  notes = c.in-Err.ensures.part.noted;
   names = record {
     fault = c.of_noted.result;
     came = subst (λ (f : ProgramFault). CameFrom f ((c.shown_noted.new.reader.failed ≡ true) ⊎ (c.shown_noted.new.reader.reads ≡ 18446744073709551615)) (c.shown_noted.new.writer.failed ≡ true) ((c.shown_noted.new.reader.failed ≡ false) × (c.shown_noted.new.writer.failed ≡ false)) (OfNotes (c.fail.new.errors.failed ≡ true))) (sym c.of_noted.ensures)

@@ -1,12 +1,8 @@
 use Rattle.std.specs.Prelude.{◌≡◌, ◌⊎◌}
-use Rattle.scopectl.specs.{ℕ, CameFrom, Count, Err, Limits, List, Option, ProgramFault, Showed, View, Write, false, true}
+use Rattle.scopectl.specs.{CameFrom, Err, ProgramFault, Write, false, true}
 use Rattle.scopectl.proofs.Words.{◌∙◌, ap, subst, sym}
-use Rattle.scopectl.proofs.Jobs.{came_of, made, read_is_other, sound_at, view_stopped, view_told_part, view_whole, write_is_other}
+use Rattle.scopectl.proofs.Jobs.{came_of, made, read_is_other, shown_as, sound_at, view_stopped, view_told_part, view_whole, write_is_other}
 use Rattle.scopectl.proofs.act.show_plainly.Goals as goal
-
--- the view that was shown is the one that the words ask for
-shown_as : (a b : View) (unread unread_new : Option (List ℕ)) (limits : Limits) (text : List ℕ) (count : Count) → a ≡ b → Showed unread unread_new limits a text count → Showed unread unread_new limits b text count
-shown_as a b unread unread_new limits text count same it = subst (λ (v : View). Showed unread unread_new limits v text count) same it
 
 pub returns-in-Ok-clause-done : goal.returns-in-Ok-clause-done
 returns-in-Ok-clause-done g c =
@@ -28,6 +24,6 @@ returns-in-Err-clause-named g c = λ e. record {
   fault = c.of_run.result;
   came = subst (λ (f : ProgramFault). CameFrom f ((c.shown.new.reader.failed ≡ true) ⊎ (c.shown.new.reader.reads ≡ 18446744073709551615)) (c.shown.new.writer.failed ≡ true) ((c.shown.new.reader.failed ≡ false) × (c.shown.new.writer.failed ≡ false)) (λ _. ⊥)) (sym c.of_run.ensures)
       (came_of c.in-Err.cause _ _ _ _ (λ is. c.shown.ensures.read (c.in-Err.is ∙ ap Err is)) (λ is. c.shown.ensures.write (c.in-Err.is ∙ ap Err is))
-      (λ is. (sound_at _ _ _ _ c.in-Err.is c.shown.ensures.read_failed is read_is_other, sound_at _ _ _ _ c.in-Err.is c.shown.ensures.write_failed is write_is_other)));
+      (λ is. (sound_at _ _ _ _ c.in-Err.is c.shown.ensures.read_failed is read_is_other, shown_as, sound_at _ _ _ _ c.in-Err.is c.shown.ensures.write_failed is write_is_other)));
   line = c.fail.ensures.named;
 }

@@ -1,7 +1,7 @@
 use Rattle.std.specs.Prelude.{◌++◌, ◌+◌, ◌-◌, ◌≡◌, ◌≤◌}
 use Rattle.script_jobs.specs.{Begun.Begun, false, grown_by, length, take, true}
-use Rattle.script_jobs.proofs.Words.{◌∙◌, ap, arith, subst, sym}
-use Rattle.script_jobs.proofs.Growing.{fits_take, grows_all, same_begun}
+use Rattle.script_jobs.proofs.Words.{◌∙◌, ap, arith, subst}
+use Rattle.script_jobs.proofs.Growing.{fits_take, grown_so}
 use Rattle.script_jobs.proofs.begun.BegunLine.extend.Goals as goal
 
 pub unreachable-requires : goal.unreachable-requires
@@ -16,8 +16,7 @@ returns-clause-grown c =
     let short : length first ≤ 201 = omega (arith, c.len-room.ensures.value, c.len-room.ensures.fits) in
     let fitting = c.beginning-fitting.ensures.is ∙ ap (λ n. take (201 - n) c.args.bytes.now) c.len-room.ensures.value in
     let first_is = c.in-Ok.ensures.ok ∙ (ap (λ bs. first ++ bs) fitting ∙ fits_take 201 first c.args.bytes.now short) in
-    same_begun _ _ _ _ first_is c.saturating_add-self-inside.ensures
-    ∙ (sym (grows_all first c.self.inside.bytes c.args.bytes.now short (omega arith)) ∙ ap (λ k. grown_by k c.args.bytes.now) c.self.view_is)
+    grown_so _ _ _ _ first_is c.saturating_add-self-inside.ensures ∙ ap (λ k. grown_by k c.args.bytes.now) c.self.view_is
 
 pub returns-clause-within : goal.returns-clause-within
 returns-clause-within c =

@@ -1,14 +1,10 @@
--- The lines before the rest were taken, answered and noted.
-use Rattle.script_jobs.specs.{Replies, length, noted_of, plain_of}
+-- The lines before the rest were taken and answered.
+use Rattle.script_jobs.specs.{Replies, length, plain_of}
 use Rattle.script_jobs.proofs.Words.{Taken}
-use Rattle.script_jobs.proofs.ByBytes.{NotesTaken}
 use Rattle.script_jobs.proofs.session.NotedScript.take.Given as goal
 
 abbrev pub decreases-loop-line : goal.decreases-loop-line
 decreases-loop-line g l = length l.rest
 
 abbrev pub invariant-loop-line : goal.invariant-loop-line
-invariant-loop-line g l = record {
-  replied : Taken Replies (plain_of l.fn.self) (plain_of l.self) l.bytes l.rest l.fn.replies.items l.replies.items;
-  noted : NotesTaken l.wanted (noted_of l.fn.self) (noted_of l.self) l.bytes l.rest l.fn.notes.items l.notes.items;
-}
+invariant-loop-line g l = Taken Replies (plain_of l.fn.self) (plain_of l.self) l.bytes l.rest l.fn.replies.items l.replies.items

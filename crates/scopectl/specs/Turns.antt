@@ -1,5 +1,5 @@
 -- What a call made of the bytes of a stream.
-use Rattle.script_jobs.specs.Words.{ℕ, List, Option, Watched}
+use Rattle.scopectl.specs.Words.{ℕ, List, Option, Watched}
 
 -- the bytes that a reader has left, or that a writer has taken, before a call and after it, each if they are known
 pub record Turn : Type 0 where
