@@ -22,7 +22,6 @@ pub record ScriptSaid : Type 0 where
 pub data Said : Type 0 where
   replay : ScriptSaid → (explain trace : Bool) → Said
   show : ScriptSaid → ViewOptions → (lenient explain : Bool) → Said
-  page : ScriptSaid → (lenient : Bool) → Said
   quote : (deadline : Option ℕ) (after : List NameAndMillis) (tree_after : Option ℕ) → Said
   generate : (seed lines : Option ℕ) → Said
 
@@ -89,7 +88,7 @@ said_by Dump rows = show_by rows (option_map (λ f. ViewOptions.Dump f) (format_
 said_by Tree rows = show_by rows (option_map (λ t. ViewOptions.Tree t) (tree_by rows)) (has_in rows Lenient)
 said_by Timeline rows = show_by rows (option_map (λ p. ViewOptions.Timeline p) (picture_by rows)) (has_in rows Lenient)
 said_by TraceEvents rows = show_by rows (Some ViewOptions.TraceEvents) (has_in rows Lenient)
-said_by Page rows = option_map (λ script. page script (has_in rows Lenient)) (script_by rows)
+said_by Page rows = show_by rows (Some ViewOptions.Page) (has_in rows Lenient)
 said_by Quote rows = quote_by rows
 said_by Generate rows = generate_by rows
 
@@ -159,7 +158,6 @@ script_of options = record { numbers = numbers_of options.limits; strict = optio
 abbrev pub said_of : CommandLine → Said
 said_of (line.Replay script explain trace) = replay (script_of script) explain trace
 said_of (line.Show script view lenient explain) = show (script_of script) view lenient explain
-said_of (line.Page script lenient) = page (script_of script) lenient
 said_of (line.Quote deadline after tree_after) = quote deadline (map delay_of after.items) tree_after
 said_of (line.Generate seed lines) = generate seed lines
 

@@ -46,12 +46,6 @@ pub enum CommandLine {
         /// Whether it is to be said why lines were refused.
         explain: bool,
     },
-    /// Runs the script on standard input without replies, and writes the run as a page for a browser.
-    Page {
-        script: ScriptOptions,
-        /// Whether the status is 0 though lines are no commands.
-        lenient: bool,
-    },
     /// Serves the plan on standard input, and writes the answer.
     Quote {
         /// After how many milliseconds the plan is answered by what is there, if it is.
@@ -81,6 +75,8 @@ pub enum ViewOptions {
     Timeline(PictureOptions),
     /// The run as Chrome trace events.
     TraceEvents,
+    /// The run as a page for a browser.
+    Page,
 }
 
 /// The jobs, each of which has a word.
@@ -439,11 +435,7 @@ fn said(alloc: Global, job: Job, options: &ArgMatches<'_>) -> Result<CommandLine
             shown_by(alloc, options, ViewOptions::Timeline(picture))
         }
         Job::TraceEvents => shown_by(alloc, options, ViewOptions::TraceEvents),
-        Job::Page => {
-            let script = settings::script(alloc, options)?;
-            let lenient = settings::is_set(options, Flag::Lenient);
-            Ok(CommandLine::Page { script, lenient })
-        }
+        Job::Page => shown_by(alloc, options, ViewOptions::Page),
         Job::Quote => {
             let deadline = settings::number_if_given(alloc, options, Setting::Deadline)?;
             let after = delays(alloc, options)?;

@@ -1,7 +1,7 @@
 -- What was read and written makes what a job did.
 use Rattle.std.specs.Prelude.{◌≡◌, ◌≢◌, ◌≤◌}
 use Rattle.scopectl.specs.{[], ℕ, Appends, AppendsPart, Bool, CameFrom, CommandLine, Count, DidPart, DidReplay, DidWhole, EitherBy, Err, FailedAtEnd, IsSaid, Limits, List, Made, Makes}
-use Rattle.scopectl.specs.{NamesFault, None, Noted, NotedFault, Notes, OfNotes, Ok, Option, Paged, ProgramFault, ReadSome, Replayed, Replies}
+use Rattle.scopectl.specs.{NamesFault, None, Noted, NotedFault, Notes, OfNotes, Ok, Option, ProgramFault, ReadSome, Replayed, Replies}
 use Rattle.scopectl.specs.{Result, Run, RunsPartly, ScriptFault, ScriptOptions, Showed, Some, ToldNotes, View, ViewOptions, WroteLate, count_text, false, fault_of_noted, fault_of_run}
 use Rattle.scopectl.specs.{is_silent, is_some, notes_wanted, status_of, true, view_of}
 use Rattle.scopectl.proofs.Words.{◌∙◌, Appends-trans, ap, arith, inl, inr, refl, subst, sym}
@@ -171,27 +171,6 @@ module _ (v : ViewOptions) (script : ScriptOptions) (lenient explain : Bool) (ru
   pub view_stopped : ReadSome run.taken.before run.taken.after → Appends run.written.before run.written.after [] → DidPart (CommandLine.Show script v lenient explain) run
   view_stopped some unwritten = record { bytes = some.bytes; read = some.read; wrote = inl unwritten }
 
--- ---- a page
-
-pub page_made : (script : ScriptOptions) (lenient : Bool) (unread unread_new : Option (List ℕ)) (text : List ℕ) (count : Count) → Paged unread unread_new script.limits text count → Made (Makes (CommandLine.Page script lenient)) unread unread_new text
-page_made script lenient unread unread_new text count paged = record {
-  bytes = paged.script;
-  whole = record { read = paged.read; all = paged.all };
-  makes = paged.is;
-}
-
-module _ (script : ScriptOptions) (lenient : Bool) (run : Run) where
-  pub page_told_part : (mid : Option (List ℕ)) (text : List ℕ) → Made (Makes (CommandLine.Page script lenient)) run.taken.before run.taken.after text → Appends run.written.before mid [] → AppendsPart mid run.written.after text → run.ByWriter
-      → DidPart (CommandLine.Page script lenient) run
-  page_told_part mid text made unwritten wrote fails = record {
-    bytes = made.bytes;
-    read = made.whole.read;
-    wrote = late (CommandLine.Page script lenient) run mid text made unwritten wrote fails;
-  }
-
-  pub page_stopped : ReadSome run.taken.before run.taken.after → Appends run.written.before run.written.after [] → DidPart (CommandLine.Page script lenient) run
-  page_stopped some unwritten = record { bytes = some.bytes; read = some.read; wrote = inl unwritten }
-
 -- ---- a command that was done, with what was said of the lines that were refused
 
 module _ (run : Run) (result : ℕ) (script : ScriptOptions) (count : Count) where
@@ -235,13 +214,5 @@ module _ (run : Run) (result : ℕ) (script : ScriptOptions) (count : Count) whe
         noted = said;
         counted = subst (λ (t : Count). Noted script.quiet t (run.said.after ≡ said) said run.said.after run.errors_failed) it.counted noted;
       };
-      status = status ∙ ap (status_of script.strict lenient) it.counted;
-    }
-
-  module _ (lenient : Bool) (status : result ≡ status_of script.strict lenient count) (mid : Option (List ℕ)) (text : List ℕ) (unwritten : Appends run.written.before mid []) (wrote : Appends mid run.written.after text) where
-    pub page_whole : Noted script.quiet count run.ErrorsKept run.said.before run.said.after run.errors_failed → Paged run.taken.before run.taken.after script.limits text count → DidWhole (CommandLine.Page script lenient) run result
-    page_whole noted it = record {
-      did = record { bytes = it.script; read = it.read; all = it.all; text = text; makes = it.is; wrote = Appends-trans run.written.before mid run.written.after [] text unwritten wrote };
-      noted = subst (λ (t : Count). Noted script.quiet t run.ErrorsKept run.said.before run.said.after run.errors_failed) it.counted noted;
       status = status ∙ ap (status_of script.strict lenient) it.counted;
     }

@@ -1,9 +1,9 @@
 -- What the program has done.
 use Rattle.std.specs.Prelude.{◌&&◌, ◌++◌, ◌-◌, ◌∷◌, ◌≡◌, ◌⊎◌}
 use Rattle.scopectl.specs.Words.{[], ℕ, AllowedText, Answers, Appends, AppendsPart, AsksFor, Between, Bool, CommandLine, Consumes, Count, Delay, DumpFormat, Err}
-use Rattle.scopectl.specs.Words.{IsAtEnd, IsNoRequest, IsPageOf, IsScript, LEVEL_LIMIT, Limits, LineFault, List, Name, None, Notes, Ok, Option, PartText, PictureOptions, PlanValue, Result, SayPlan}
+use Rattle.scopectl.specs.Words.{IsAtEnd, IsNoRequest, IsScript, IsShown, LEVEL_LIMIT, Limits, LineFault, List, Name, None, Notes, Ok, Option, PartText, PictureOptions, PlanValue, Result, SayPlan}
 use Rattle.scopectl.specs.Words.{Says, SaysNone, ScriptOptions, Some, TreeOptions, TreePart, View, ViewOptions, count_of_script, false, lines_of, is_some, list_any, no_refusals, realm_of_script}
-use Rattle.scopectl.specs.Words.{replies_of, same_name, shown_text, stamps_of_script, true, unwrap_or, whole}
+use Rattle.scopectl.specs.Words.{replies_of, same_name, stamps_of_script, true, unwrap_or, whole}
 use Rattle.command_line.specs.declared.faults.LineFault.TheVariants.{Memory}
 use Rattle.run_picture.specs.declared.view.View.{View as Seen}
 use Rattle.scopectl.specs.{Runs.Run, Saying.Noted, Saying.SaidNotes, Saying.status_of}
@@ -114,21 +114,17 @@ view_of (ViewOptions.Dump DumpFormat.Second) = View.TimedDump
 view_of (ViewOptions.Tree tree) = View.Tree (tree_part tree)
 view_of (ViewOptions.Timeline picture) = View.Timeline (seen_of picture) (between_of picture)
 view_of ViewOptions.TraceEvents = View.TraceEvents
+view_of ViewOptions.Page = View.Page
 
 -- the text is the view of the realm of these limits that the script leaves
 abbrev pub Shows : View → Limits → (bytes text : List ℕ) → Type 0
-Shows view limits bytes text = text ≡ shown_text view limits (realm_of_script limits bytes).history (stamps_of_script limits bytes)
+Shows view limits bytes text = IsShown view limits (realm_of_script limits bytes).history (stamps_of_script limits bytes) text
 
--- the text is a page of the realm of these limits that the script leaves, by the readings of a clock in it
-abbrev pub Pages : Limits → (bytes text : List ℕ) → Type 0
-Pages limits bytes text = IsPageOf text (realm_of_script limits bytes).history (stamps_of_script limits bytes).events
-
--- what a command makes of the bytes that are read: the replies to a script, in a realm of its limits; a view or a page of
--- the realm that the script leaves; or an answer to a plan by the deadline
+-- what a command makes of the bytes that are read: the replies to a script, in a realm of its limits; a view of the
+-- realm that the script leaves; or an answer to a plan by the deadline
 abbrev pub Makes : CommandLine → (bytes text : List ℕ) → Type 0
 Makes (CommandLine.Replay script explain trace) bytes text = text ≡ replies_of script.limits bytes
 Makes (CommandLine.Show script view lenient explain) bytes text = Shows (view_of view) script.limits bytes text
-Makes (CommandLine.Page script lenient) bytes text = Pages script.limits bytes text
 Makes (CommandLine.Quote deadline after tree_after) bytes text = AnswersPlan deadline after.items bytes text
 Makes (CommandLine.Generate seed lines) bytes text = IsScript (lines_or lines) text
 
@@ -148,7 +144,6 @@ no_count = record { tally = no_refusals; is_foreign = false }
 abbrev pub count_of : CommandLine → List ℕ → Count
 count_of (CommandLine.Replay script explain trace) bytes = count_of_script script.limits bytes
 count_of (CommandLine.Show script view lenient explain) bytes = count_of_script script.limits bytes
-count_of (CommandLine.Page script lenient) bytes = count_of_script script.limits bytes
 count_of (CommandLine.Quote deadline after tree_after) bytes = no_count
 count_of (CommandLine.Generate seed lines) bytes = no_count
 
@@ -156,21 +151,18 @@ count_of (CommandLine.Generate seed lines) bytes = no_count
 abbrev pub is_strict : CommandLine → Bool
 is_strict (CommandLine.Replay script explain trace) = script.strict
 is_strict (CommandLine.Show script view lenient explain) = script.strict
-is_strict (CommandLine.Page script lenient) = script.strict
 is_strict (CommandLine.Quote deadline after tree_after) = false
 is_strict (CommandLine.Generate seed lines) = false
 
 -- the status is 0 though lines are no commands
 abbrev pub is_lenient : CommandLine → Bool
 is_lenient (CommandLine.Show script view lenient explain) = lenient
-is_lenient (CommandLine.Page script lenient) = lenient
 is_lenient _ = true
 
 -- nothing is to be said of how many lines were refused
 abbrev pub is_quiet : CommandLine → Bool
 is_quiet (CommandLine.Replay script explain trace) = script.quiet
 is_quiet (CommandLine.Show script view lenient explain) = script.quiet
-is_quiet (CommandLine.Page script lenient) = script.quiet
 is_quiet (CommandLine.Quote deadline after tree_after) = true
 is_quiet (CommandLine.Generate seed lines) = true
 

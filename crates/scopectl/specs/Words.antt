@@ -10,13 +10,13 @@ pub use Rattle.quote_gateway.specs.declared.faults.GatewayFault.{GatewayFault}
 pub use Rattle.quote_plan.specs.Allowed.{AllowedText, AllowedTextBy, PartText}
 pub use Rattle.quote_plan.specs.{Passing.HasTaken, Passing.NamesLine, PlanReading.SayPlan, PlanWhys.words_of, Plans.PlanValue, Plans.labels_of}
 pub use Rattle.quote_plan.specs.declared.{answers.Answer.Answer, reading.PlanFault.PlanFault, whys.PlanWhy.PlanWhy}
-pub use Rattle.run_picture.specs.{Page.IsPageOf, View.whole}
+pub use Rattle.run_picture.specs.View.{whole}
 pub use Rattle.scope_rules.specs.Names.{same_name}
 pub use Rattle.scope_rules.specs.declared.types.{capacity.Limits.Limits, capacity.TheConstants.LEVEL_LIMIT, names.Name.Name}
 pub use Rattle.scope_script.specs.{Running.RunsPartly, Streams.AppendsPart, Tallies.no_refusals}
 pub use Rattle.scope_script.specs.declared.{session.run.Mode.TheVariants.Replies, session.run.ScriptFault.ScriptFault, session.tally.Tally.Tally, streams.watched.Watched.Watched}
-pub use Rattle.script_jobs.specs.Jobs.{ReadSome, Replayed, Showed, shown_text}
-pub use Rattle.script_jobs.specs.{Counts.count_of_script, Made.IsScript, Paging.Paged}
+pub use Rattle.script_jobs.specs.Jobs.{IsShown, ReadSome, Replayed, Showed}
+pub use Rattle.script_jobs.specs.{Counts.count_of_script, Made.IsScript}
 pub use Rattle.script_jobs.specs.declared.{between.Between.Between, counting.Count.Count, notes.Notes.Notes, noting.NotedFault.NotedFault, showing.View.View}
 pub use Rattle.tree_dump.specs.declared.parts.TreePart.{TreePart}
 pub use Rattle.scopectl.specs.declared.fault.ProgramFault.TheVariants.{Cancelled, Lost, Memory, NoOffer, PlanLine, Read, Rejected, Strange, Time, Write}

@@ -20,8 +20,7 @@ use scope_rules::Due;
 use scope_rules::types::capacity::LEVEL_LIMIT;
 use scope_script::Watched;
 use script_jobs::{
-    Between, Count, Notes, Rendering, View, paged, replayed, replayed_noted, script_by, shown,
-    shown_noted,
+    Between, Count, Notes, Rendering, View, replayed, replayed_noted, script_by, shown, shown_noted,
 };
 use std::alloc::Global;
 use std::io::{ErrorKind, Read, Write};
@@ -120,7 +119,6 @@ pub fn act<
                 explain,
             },
         ) => show(alloc, script, view, lenient, explain, streams),
-        Ok(CommandLine::Page { script, lenient }) => page(alloc, script, lenient, streams),
         Ok(
             CommandLine::Quote {
                 deadline,
@@ -349,30 +347,6 @@ fn show_noted<R: Read + Drop, W: Write + Drop, E: Write + Drop>(
     }
 }
 
-/// Writes the run of the script as a page.
-fn page<R: Read + Drop, W: Write + Drop, E: Write + Drop>(
-    alloc: Global,
-    script: ScriptOptions,
-    lenient: bool,
-    streams: &mut Streams<'_, R, W, E>,
-) -> u8
-    requires { IsSound streams.old }
-    ensures status { (result ≤ 3) × (result ≢ 2) }
-    ensures done { result ≢ 1 → DidWhole (CommandLine.Page script lenient) (run R.remaining W.contents E.contents streams.old streams.new) result }
-    ensures fault { result ≡ 1 → DidPart (CommandLine.Page script lenient) (run R.remaining W.contents E.contents streams.old streams.new) }
-    ensures named { result ≡ 1 → Names (run R.remaining W.contents E.contents streams.old streams.new) (λ _. ⊥) }
-{
-    match paged(
-        alloc,
-        script.limits,
-        &mut streams.reader,
-        &mut streams.writer,
-    ) {
-        Ok(shown) => tell_shown(script, lenient, &shown, &mut streams.writer, streams.errors),
-        Err(reason) => fail(ProgramFault::of_run(reason), streams.errors),
-    }
-}
-
 /// Writes what is shown, and says how many lines were refused.
 fn tell_shown<W: Write + Drop, E: Write + Drop>(
     script: ScriptOptions,
@@ -405,6 +379,7 @@ fn view_of(view: ViewOptions) -> View
         ViewOptions::Tree(tree) => View::Tree(tree_part(tree)),
         ViewOptions::Timeline(picture) => { View::Timeline(seen_of(picture), between_of(picture)) }
         ViewOptions::TraceEvents => View::TraceEvents,
+        ViewOptions::Page => View::Page,
     }
 }
 

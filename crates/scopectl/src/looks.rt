@@ -7,7 +7,7 @@ use job_runner::{Clock, SystemClock};
 use realm_lock::{Look, Realm, RealmName, RealmState};
 use scope_rules::{Base, Due, Event, Limits};
 use scope_script::{ScriptFault, Watched};
-use script_jobs::{Rendering, View, paged, shown};
+use script_jobs::{Rendering, View, shown};
 use script_journal::ShownEvent;
 use std::alloc::{AllocError, Global};
 use std::fs::File;
@@ -322,7 +322,13 @@ fn note_news<N: RealmName, T: Wait>(
 fn page_of(host: &HostRuntime, script: &[u8]) -> Result<Rendering, ScriptFault> {
     let mut reader = Watched::new(script);
     let mut writer = Watched::new(io::sink());
-    paged(host.alloc(), Limits::GREATEST, &mut reader, &mut writer)
+    shown(
+        host.alloc(),
+        Limits::GREATEST,
+        View::Page,
+        &mut reader,
+        &mut writer,
+    )
 }
 
 /// Writes the tree of what the script leaves to standard error.

@@ -368,9 +368,7 @@ fn act_compared<T: PoolRuntime + SystemTime, R: Read + Drop, E: Write + Drop>(
 /// Whether the words want nothing said but what they ask for.
 fn is_quiet(command: &CommandLine) -> bool {
     match command {
-        CommandLine::Replay { script, .. }
-        | CommandLine::Show { script, .. }
-        | CommandLine::Page { script, .. } => script.quiet,
+        CommandLine::Replay { script, .. } | CommandLine::Show { script, .. } => script.quiet,
         CommandLine::Quote { .. } => false,
         CommandLine::Generate { .. } => true,
     }

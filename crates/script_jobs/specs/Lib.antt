@@ -12,7 +12,6 @@ pub mod Fits
 pub mod LineLaws
 pub mod Times
 pub mod Made
-pub mod Paging
 pub mod Words
 unfoldable pub use Words.*
 unfoldable pub use Begun.*
@@ -24,7 +23,6 @@ pub use Jobs.*
 unfoldable pub use LineLaws.*
 pub use Made.*
 pub use Noting.*
-pub use Paging.*
 pub use Passed.*
 pub use Prompting.*
 pub use Scripts.*

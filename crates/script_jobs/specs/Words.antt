@@ -7,7 +7,6 @@ pub use Rattle.std.specs.declared.result.Result.{Result}
 pub use Rattle.refusal_reasons.specs.Fits.{EventsFit, QueriesFit, RetirementsFit, refused_alone, refusing}
 pub use Rattle.refusal_reasons.specs.{Places.is_pending, Reasons.Explained}
 pub use Rattle.refusal_reasons.specs.declared.{faults.WordFault.WordFault, faults.WordFault.TheVariants.TooLong}
-pub use Rattle.run_picture.specs.{Page.IsPageOf, Picture.drawn_text, Trace.trace_text}
 pub use Rattle.scope_book.specs.Books.{history_of, limits_of, realm_of}
 pub use Rattle.scope_rules.specs.{Checks.Checked, Checks.scope_check, History.History, History.followed, History.is_fork, History.task_numbers, History.tasks, Origin.Origin, Origin.the_start}
 pub use Rattle.scope_rules.specs.{Replies.Realm, Replies.after_retiring, Replies.starting, Replies.with_event, Scopes.joins, Table.answering, Table.check_of, Table.is_already, Tasks.is_settled}
@@ -25,7 +24,7 @@ pub use Rattle.script_words.specs.declared.{commands.Command.Command, commands.L
 pub use Rattle.tree_dump.specs.{Ages.Clock, Ages.clock_of, Kept.clock_by, TreeParts.part_text}
 pub use Rattle.tree_dump.specs.declared.parts.TreePart.{TreePart}
 pub use Rattle.script_jobs.specs.declared.notes.Notes.TheVariants.{All, Refusals}
-pub use Rattle.script_jobs.specs.declared.showing.View.TheVariants.{Dump, TimedDump, Timeline, TraceEvents, Tree}
+pub use Rattle.script_jobs.specs.declared.showing.View.TheVariants.{Dump, Page, TimedDump, Timeline, TraceEvents, Tree}
 pub use Rattle.script_jobs.specs.declared.{begun.TheConstants.KEPT_LIMIT, between.Between.Between, counting.Count.Count, notes.Notes.Notes, showing.View.View, times.Times.Times, whys.Why.Why}
 unfoldable pub use Rattle.std.specs.Fmt.{digits}
 unfoldable pub use Rattle.refusal_reasons.specs.{Faults.fault_of, Fits.query_check, Reasons.event_reason, Reasons.query_reason, Reasons.retire_reason}

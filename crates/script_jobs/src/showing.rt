@@ -1,13 +1,13 @@
 //! What a script leaves, as it is shown.
 ghost use Rattle.std.specs.Prelude.{◌++◌, ◌∷◌, ◌≡◌, ◌⊎◌};
-ghost use Rattle.script_jobs.specs.{[], Appends, IfErr, IfOk, IsErrOf, OnErr, ReadSome, Showed, aged_text, clock_in, clock_of, count_in, count_of_script, drawn_text, dump_text};
-ghost use Rattle.script_jobs.specs.{false, history_of, realm_of_script, shown_text, stamps_of, stamps_of_script, string_bytes, trace_text, true};
+ghost use Rattle.script_jobs.specs.{[], Appends, IfErr, IfOk, IsErrOf, IsShown, OnErr, ReadSome, Showed, aged_text, clock_in, clock_of, count_in, count_of_script, dump_text};
+ghost use Rattle.script_jobs.specs.{false, history_of, realm_of_script, stamps_of, stamps_of_script, string_bytes, true};
 
 use crate::between::Between;
 use crate::counting::{Count, count_of};
 use crate::times::{Times, times_of};
 use crate::whole::read_whole;
-use run_picture::{Drawn, picture_with, trace_of};
+use run_picture::{Drawn, page_of, picture_with, trace_of};
 use scope_book::BookState;
 use scope_rules::{AnyEnd, Limits};
 use scope_script::{Mode, Ran, ScriptFault, Watched, run_tallied, run_text};
@@ -28,6 +28,8 @@ pub enum View {
     Timeline(run_picture::View, Between),
     /// The run as Chrome trace events, as JSON.
     TraceEvents,
+    /// The page of the run, as HTML.
+    Page,
 }
 
 /// What a script leaves, as it is shown.
@@ -64,7 +66,7 @@ pub fn shown<R: Read + Drop, W: Write + Drop>(
 {
     match view {
         View::Dump => dumped(alloc, limits, reader, writer),
-        View::TimedDump | View::Tree(_) | View::Timeline(..) | View::TraceEvents => {
+        View::TimedDump | View::Tree(_) | View::Timeline(..) | View::TraceEvents | View::Page => {
             shown_by_times(alloc, limits, view, reader, writer)
         }
     }
@@ -144,7 +146,7 @@ pub(crate) fn shown_of_script<W: Write + Drop>(
     writer: &mut Watched<W>,
 ) -> Result<Rendering, ScriptFault>
     requires writer { writer.old.failed ≡ false }
-    ensures text { IfOk result (λ s. string_bytes s.text ≡ shown_text view limits (realm_of_script limits script.now).history (stamps_of_script limits script.now)) }
+    ensures text { IfOk result (λ s. IsShown view limits (realm_of_script limits script.now).history (stamps_of_script limits script.now) (string_bytes s.text)) }
     ensures count { IfOk result (λ s. s.count ≡ count_of_script limits script.now) }
     ensures unwritten { Appends (W.contents writer.old.inner) (W.contents writer.new.inner) [] }
     ensures read { IsErrOf result ScriptFault.Read → ⊥ }
@@ -165,7 +167,7 @@ fn shown_of_run(
     script: &[u8],
     ran: &Ran,
 ) -> Result<Rendering, ScriptFault>
-    ensures text { IfOk result (λ s. string_bytes s.text ≡ shown_text view limits (history_of ran.now.book) (stamps_of_script limits script.now)) }
+    ensures text { IfOk result (λ s. IsShown view limits (history_of ran.now.book) (stamps_of_script limits script.now) (string_bytes s.text)) }
     ensures count { IfOk result (λ s. s.count ≡ count_in ran.now.tally (history_of ran.now.book)) }
     ensures memory { IfErr result (λ fault. fault ≡ ScriptFault.Memory) }
 {
@@ -192,7 +194,7 @@ fn text_of(
     book: &BookState<AnyEnd>,
     times: &Times,
 ) -> Result<String, AllocError>
-    ensures { IfOk result (λ text. string_bytes text ≡ shown_text view limits (history_of book.now) (stamps_of times.now)) }
+    ensures { IfOk result (λ text. IsShown view limits (history_of book.now) (stamps_of times.now) (string_bytes text)) }
 {
     match view {
         View::Dump => dump_line(alloc, book),
@@ -202,6 +204,7 @@ fn text_of(
             timeline(alloc, book, times, between.narrowed(seen, &times.events))
         }
         View::TraceEvents => trace_text(alloc, book, times),
+        View::Page => page_text(alloc, book, times),
     }
 }
 
@@ -214,9 +217,7 @@ fn timeline(
     book: &BookState<AnyEnd>,
     times: &Times,
     seen: run_picture::View,
-) -> Result<String, AllocError>
-    ensures { IfOk result (λ text. string_bytes text ≡ drawn_text (history_of book.now) (record { view = seen; lines = []; times = times.now.events.items })) }
-{
+) -> Result<String, AllocError> {
     let events = book.realm().copied_events(alloc)?;
     picture_with(
         alloc,
@@ -234,11 +235,23 @@ fn timeline(
 ///
 /// # Errors
 /// If memory was refused.
-fn trace_text(alloc: Global, book: &BookState<AnyEnd>, times: &Times) -> Result<String, AllocError>
-    ensures { IfOk result (λ text. string_bytes text ≡ trace_text (history_of book.now) times.now.events.items) }
-{
+fn trace_text(
+    alloc: Global,
+    book: &BookState<AnyEnd>,
+    times: &Times,
+) -> Result<String, AllocError> {
     let events = book.realm().copied_events(alloc)?;
     trace_of(alloc, book.realm(), &events, &times.events)
+}
+
+/// The page of the book's realm, by the times of its events, if there are any.
+///
+/// # Errors
+/// If memory was refused.
+fn page_text(alloc: Global, book: &BookState<AnyEnd>, times: &Times) -> Result<String, AllocError> {
+    let realm = book.realm();
+    let events = realm.copied_events(alloc)?;
+    page_of(alloc, realm, &events, &times.events, realm.base().moment())
 }
 
 /// The tree of the book's realm, with ages, if there are times: a part of it as text, or else the second format of the

@@ -27,15 +27,6 @@ returns-in-Ok-Show-clause-named g c = λ e. elim (c.show.ensures.named e) [
   | inr after ↦ inr (record { command = _; says = words_say _ c.args.said c.requires.read _ _ c.in-Ok-Show.is c.in-Ok-Show.field-0-is; names = after })
 ]
 
-pub returns-in-Ok-Page-clause-done : goal.returns-in-Ok-Page-clause-done
-returns-in-Ok-Page-clause-done g c = λ e f. inr (record { command = _; says = words_say _ c.args.said c.requires.read _ _ c.in-Ok-Page.is c.in-Ok-Page.field-0-is; did = c.page.ensures.done e })
-
-pub returns-in-Ok-Page-clause-fault : goal.returns-in-Ok-Page-clause-fault
-returns-in-Ok-Page-clause-fault g c = λ e. inr (inr (record { command = _; said = words_say _ c.args.said c.requires.read _ _ c.in-Ok-Page.is c.in-Ok-Page.field-0-is; did = c.page.ensures.fault e }))
-
-pub returns-in-Ok-Page-clause-named : goal.returns-in-Ok-Page-clause-named
-returns-in-Ok-Page-clause-named g c = λ e. inl (names_weaker _ _ _ _ _ _ _ _ (λ f none. absurd none) (c.page.ensures.named e))
-
 pub returns-in-Ok-Quote-clause-done : goal.returns-in-Ok-Quote-clause-done
 returns-in-Ok-Quote-clause-done g c =
     λ e f. (let none = well_ended _ c.quote.ensures.status e in inr (record { command = _; says = words_say _ c.args.said c.requires.read _ _ c.in-Ok-Quote.is c.in-Ok-Quote.field-0-is; did = record { did = c.quote.ensures.done none; noted = c.quote.ensures.silent none; status = none } }))

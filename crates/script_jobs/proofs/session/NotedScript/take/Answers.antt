@@ -9,9 +9,9 @@ loop-line-init g c = takes_none Replies (plain_of c.args.self.now) c.args.bytes.
 pub loop-line-preserved : goal.loop-line-preserved
 loop-line-preserved g c =
     takes_line Replies _ (plain_of c.loop-line.self) (plain_of c.answer.new.self) _ c.loop-line.rest.now c.in-Some.line.now c.in-Some.others.now _ c.loop-line.replies.items _ (line_said c.extend.new.self.first)
-      c.loop-line.invariant c.in-Some.ensures
-      (ap (λ (k : Begun). line_said k.first) c.extend.ensures.grown ∙ plain_said c.loop-line.self.begun c.in-Some.line.now c.extend.ensures.within)
-      c.in-Ok.ensures.realm c.in-Ok.ensures.tally (ap (λ (k : Begun). kept k.first) c.in-Ok.ensures.begun ∙ none_kept) c.in-Ok.ensures.replies
+    c.loop-line.invariant c.in-Some.ensures
+    (ap (λ (k : Begun). line_said k.first) c.extend.ensures.grown ∙ plain_said c.loop-line.self.begun c.in-Some.line.now c.extend.ensures.within)
+    c.in-Ok.ensures.realm c.in-Ok.ensures.tally (ap (λ (k : Begun). kept k.first) c.in-Ok.ensures.begun ∙ none_kept) c.in-Ok.ensures.replies
 
 pub returns-in-Err-clause-replies_part : goal.returns-in-Err-clause-replies_part
 returns-in-Err-clause-replies_part g c =
@@ -25,4 +25,3 @@ returns-clause-plain g c =
 pub returns-clause-replies : goal.returns-clause-replies
 returns-clause-replies g c =
     all_replied Replies _ (plain_of c.loop-line.self) _ c.loop-line.rest.now _ _ c.loop-line.invariant c.in_default.ensures
-
