@@ -4,10 +4,7 @@ mod Closings
 mod Fits
 mod Truth
 mod Explained
-mod Ascii
-mod Options
-mod FaultsFit
+mod FieldsFit
 mod FirstWrong
-mod Called
 mod PlacesFit
 mod Lemmas

@@ -1,8 +1,12 @@
 -- Where a field stands in its line.
-use Rattle.std.specs.Prelude.{◌++◌, ◌+◌, ◌-◌, ◌≡◌}
-use Rattle.refusal_reasons.specs.Words.{ℕ, LINE_LIMIT, List, Place, WordFault, codes, drop, fields, is_space, length, max, position_or_len, replicate, suc, take, without_spaces}
-use Rattle.refusal_reasons.specs.Words.{zero}
-use Rattle.refusal_reasons.specs.{FaultSentences.field_at, Shown.all_shown}
+use Rattle.std.specs.Prelude.{◌+◌, ◌-◌, ◌∷◌, ◌≡◌}
+use Rattle.refusal_reasons.specs.Words.{[], ℕ, LINE_LIMIT, List, Place, WordFault, drop, fields, is_space, length, position_or_len, suc, take, without_spaces, zero}
+
+-- the field at the index; no bytes if there is none
+unfoldable pub field_at : List (List ℕ) → ℕ → List ℕ
+field_at [] n = []
+field_at (word ∷ words) zero = word
+field_at (word ∷ words) (suc n) = field_at words n
 
 -- what stands behind the first field of a text
 abbrev pub behind_first : List ℕ → List ℕ
@@ -31,15 +35,7 @@ place_of line WordFault.NoForm = field_place line 0
 place_of line (WordFault.Wrong s n k) = field_place line (suc n)
 place_of line (WordFault.Missing s k) = end_of line
 place_of line (WordFault.Extra s n) = field_place line (suc n)
-place_of line (WordFault.Stray n) = field_place line (suc n)
 
 -- a field stands where it is said to
 abbrev pub PlacesFit : Type 0
 PlacesFit = (line : List ℕ) (n : ℕ) → take (field_place line n).width (drop ((field_place line n).column - 1) line) ≡ field_at (fields line) n
-
--- ---- as it is shown
-
--- the line, of which no more is shown than it may have, and below it a caret for each byte of the field, one at the
--- least
-abbrev pub picture_text : List ℕ → Place → List ℕ
-picture_text line place = codes "    " ++ (all_shown (take LINE_LIMIT line) ++ (codes "\n    " ++ (replicate (place.column - 1) 32 ++ (replicate (max 1 place.width) 94 ++ codes "\n"))))

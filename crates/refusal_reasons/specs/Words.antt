@@ -19,9 +19,9 @@ pub use Rattle.script_words.specs.{Fields.first_and_rest, Fields.is_space, Lines
 pub use Rattle.script_words.specs.{Openings.found_or, Openings.is_empty, Openings.next_said, Steps.◌>>=◌}
 pub use Rattle.script_words.specs.declared.{commands.Command.Command, commands.Line.Line, commands.Line.TheVariants.BadWord, commands.Line.TheVariants.Silent, commands.Query.Query}
 pub use Rattle.script_words.specs.declared.{keywords.Keyword.Keyword, keywords.OneNumber.OneNumber, keywords.TwoNumbers.TwoNumbers, lines.TheConstants.LINE_LIMIT}
-pub use Rattle.refusal_reasons.specs.declared.{causes.Alien.Alien, causes.Cause.Cause, faults.WordFault.WordFault, line_places.Place.Place, line_shown.TheConstants.SHOWN_LIMIT}
+pub use Rattle.refusal_reasons.specs.declared.{faults.WordFault.WordFault, forms.FieldKind.FieldKind, forms.OpenWord.OpenWord, forms.Slot.Slot, line_places.Place.Place}
 pub use Rattle.refusal_reasons.specs.declared.{reasons.ActorObstacle.ActorObstacle, reasons.Reason.Reason, reasons.RoomObstacle.RoomObstacle, reasons.ScopeObstacle.ScopeObstacle}
-pub use Rattle.refusal_reasons.specs.declared.{reasons.TaskObstacle.TaskObstacle, sentences.TheConstants.COMMANDS, sentences.TheConstants.OPTIONS, shapes.FieldKind.FieldKind, shapes.Shape.Shape}
+pub use Rattle.refusal_reasons.specs.declared.{reasons.TaskObstacle.TaskObstacle}
 unfoldable pub use Rattle.std.specs.Char.{encode_utf8}
 unfoldable pub use Rattle.scope_rules.specs.Bindings.{bindings, bound_as_opened, bound_to, holds_last, stack}
 unfoldable pub use Rattle.scope_rules.specs.Checks.{checks, in_closing, is_innermost, known_actor, known_scope, known_task, owns, then_check}

@@ -1,40 +1,36 @@
-//! Why a word is not what it is to be.
-ghost use Rattle.std.specs.Prelude.{◌≡◌};
-ghost use Rattle.refusal_reasons.specs.{after, alien_in, cause_of, digits_cause, first_other, first_strange, has_byte, has_mark, inner_cause, is_inner, is_letter, is_some, is_zero, name_cause};
-ghost use Rattle.refusal_reasons.specs.{number_cause, signed_cause, timed, value_cause, wide};
+//! What is said of a word that is not what it is to be.
 
-use crate::shapes::FieldKind;
+use crate::forms::FieldKind;
+use crate::line_shown::ShownByte;
+use script_words::is_near;
+use std::fmt;
 
-/// What other systems and editors leave in a word. No word of a script has it.
-#[derive(Clone, Copy)]
-pub enum Alien {
-    /// The three bytes in front of a text in UTF-8 that says so.
-    ByteOrderMark,
-    /// A byte 0, as a text in UTF-16 has it.
-    Utf16,
-    /// The first byte of a line's end on Windows.
-    CarriageReturn,
-    /// A tab.
-    Tab,
+/// What other systems and editors leave in the word, if anything, and what it is to be instead.
+pub(crate) fn alien_in(word: &[u8]) -> Option<&'static str> {
+    if word.strip_prefix([239, 187, 191].as_slice()).is_some() {
+        return Some("a byte order mark: a script is text without one");
+    }
+    if word.contains(&0) {
+        return Some("a byte 0, as in UTF-16: a script is ASCII text");
+    }
+    if word.contains(&b'\r') {
+        return Some("a carriage return: a line ends in a line feed alone");
+    }
+    if word.contains(&b'\t') {
+        return Some("a tab: fields stand between spaces");
+    }
+    None
 }
 
 /// Why a word is not of its kind.
 #[derive(Clone, Copy)]
-pub enum Cause {
+pub(crate) enum Cause {
     /// It is nothing like it.
     Plain,
-    /// The number is greater than the greatest.
-    TooGreat,
-    /// The number has more than 64 bits.
-    TooWide,
-    /// The number begins with a 0 that it needs not.
-    NeedlessZero,
-    /// A sign stands in front, if no number is below 0.
-    Signed,
+    /// It is so.
+    Is(&'static str),
     /// The byte behind a first digit is no digit.
     NoDigit(u8),
-    /// A moment has a unit behind its digits.
-    HasUnit,
     /// The name has so many bytes.
     TooLongName(usize),
     /// The name begins with this byte.
@@ -43,214 +39,132 @@ pub enum Cause {
     HasByte(u8),
 }
 
-/// Whether the word begins with a byte order mark.
-#[tactic(auto, unfolding(script_words::specs::Joiners::after))]
-fn has_mark(word: &[u8]) -> bool
-    ensures { result ≡ has_mark word.now }
-{
-    word.strip_prefix([239, 187, 191].as_slice()).is_some()
-}
-
-/// What other systems and editors leave in the word, if anything.
-#[tactic(auto, unfolding(crate::specs::Causes::alien_in))]
-pub(crate) fn alien_in(word: &[u8]) -> Option<Alien>
-    ensures { result ≡ alien_in word.now }
-{
-    if has_mark(word) {
-        return Some(Alien::ByteOrderMark);
-    }
-    if word.contains(&0) {
-        return Some(Alien::Utf16);
-    }
-    if word.contains(&b'\r') {
-        return Some(Alien::CarriageReturn);
-    }
-    if word.contains(&b'\t') {
-        return Some(Alien::Tab);
+/// The first of the bytes that is no digit.
+fn first_other(bytes: &[u8]) -> Option<u8> {
+    for byte in bytes {
+        if !byte.is_ascii_digit() {
+            return Some(*byte);
+        }
     }
     None
 }
 
-/// The first of the bytes that is no digit.
-#[tactic(auto, unfolding(crate::specs::Causes::first_other))]
-fn first_other(bytes: &[u8]) -> Option<u8>
-    ensures { result ≡ first_other bytes.now }
-{
-    match bytes {
-        [] => None,
-        [byte, others @ ..] => {
-            if byte.is_ascii_digit() {
-                first_other(others)
-            } else {
-                Some(*byte)
-            }
-        }
-    }
-}
-
-/// Whether the byte is from `a` to `z`.
-fn is_letter(byte: u8) -> bool
-    ensures { result ≡ is_letter byte }
-{
-    byte >= b'a' && byte <= b'z'
-}
-
-/// Whether a name may have the byte behind its first.
-fn is_inner(byte: u8) -> bool
-    ensures { result ≡ is_inner byte }
-{
-    is_letter(byte)
-        || (byte >= b'0' && byte <= b'9')
-        || byte == b'-'
-        || byte == b'_'
-        || byte == b'.'
-}
-
 /// The first of the bytes that no name has.
-#[tactic(auto, unfolding(crate::specs::Causes::first_strange))]
-fn first_strange(bytes: &[u8]) -> Option<u8>
-    ensures { result ≡ first_strange bytes.now }
-{
-    match bytes {
-        [] => None,
-        [byte, others @ ..] => {
-            if is_inner(*byte) {
-                first_strange(others)
-            } else {
-                Some(*byte)
-            }
+fn first_strange(bytes: &[u8]) -> Option<u8> {
+    for byte in bytes {
+        if !byte.is_ascii_lowercase() && !byte.is_ascii_digit() && !b"-_.".contains(byte) {
+            return Some(*byte);
         }
     }
+    None
 }
 
-/// Why a word that begins with this digit is no such number.
-fn digits_cause(first: u8, other: Option<u8>) -> Cause
-    ensures { result ≡ digits_cause first other }
-{
-    match other {
+/// Why the word is no number, of which one that is greater than the greatest is so.
+fn number_cause(word: &[u8], too_great: &'static str) -> Cause {
+    let [first, others @ ..] = word else {
+        return Cause::Plain;
+    };
+    if *first == b'-' || *first == b'+' {
+        return Cause::Is("it has a sign");
+    }
+    if !first.is_ascii_digit() {
+        return Cause::Plain;
+    }
+    match first_other(others) {
         Some(other) => Cause::NoDigit(other),
-        None => {
-            if first == b'0' {
-                Cause::NeedlessZero
-            } else {
-                Cause::TooGreat
-            }
-        }
-    }
-}
-
-/// Why the word is no number of its kind.
-fn number_cause(word: &[u8]) -> Cause
-    ensures { result ≡ number_cause word.now }
-{
-    match word {
-        [] => Cause::Plain,
-        [first, others @ ..] => {
-            if *first == b'-' || *first == b'+' {
-                Cause::Signed
-            } else if first.is_ascii_digit() {
-                digits_cause(*first, first_other(others))
-            } else {
-                Cause::Plain
-            }
-        }
-    }
-}
-
-/// The cause, of a moment: a letter behind its digits begins a unit.
-fn timed(cause: Cause) -> Cause
-    ensures { result ≡ timed cause }
-{
-    match cause {
-        Cause::NoDigit(other) if is_letter(other) => Cause::HasUnit,
-        other => other,
-    }
-}
-
-/// Why a name of so many bytes, whose first is a letter, is none.
-fn inner_cause(bytes: usize, other: Option<u8>) -> Cause
-    ensures { result ≡ inner_cause bytes other }
-{
-    match other {
-        Some(other) => Cause::HasByte(other),
-        None => Cause::TooLongName(bytes),
+        None if *first == b'0' => Cause::Is("it begins with a needless 0"),
+        None => Cause::Is(too_great),
     }
 }
 
 /// Why the word is no name.
-fn name_cause(word: &[u8]) -> Cause
-    ensures { result ≡ name_cause word.now }
-{
+fn name_cause(word: &[u8]) -> Cause {
+    let [first, others @ ..] = word else {
+        return Cause::Plain;
+    };
+    if !first.is_ascii_lowercase() {
+        return Cause::BeginsWith(*first);
+    }
+    match first_strange(others) {
+        Some(other) => Cause::HasByte(other),
+        None => Cause::TooLongName(word.len()),
+    }
+}
+
+/// Why the word is no value: 0 has no sign.
+fn value_cause(word: &[u8]) -> Cause {
+    let too_wide = "it has more than 64 bits";
     match word {
-        [] => Cause::Plain,
-        [first, others @ ..] => {
-            if is_letter(*first) {
-                inner_cause(word.len(), first_strange(others))
-            } else {
-                Cause::BeginsWith(*first)
-            }
-        }
-    }
-}
-
-/// The cause, of a number of 64 bits.
-fn wide(cause: Cause) -> Cause
-    ensures { result ≡ wide cause }
-{
-    match cause {
-        Cause::TooGreat => Cause::TooWide,
-        other => other,
-    }
-}
-
-/// Whether the digits are 0 alone.
-fn is_zero(digits: &[u8]) -> bool
-    ensures { result ≡ is_zero digits.now }
-{
-    match digits {
-        [only] => *only == b'0',
-        _ => false,
-    }
-}
-
-/// Why a word with this sign in front of the digits is no number of 64 bits: 0 has no sign.
-fn signed_cause(sign: u8, digits: &[u8]) -> Cause
-    ensures { result ≡ signed_cause sign digits.now }
-{
-    if sign == b'-' && !is_zero(digits) {
-        wide(number_cause(digits))
-    } else {
-        Cause::Signed
-    }
-}
-
-/// Why the word is no value.
-fn value_cause(word: &[u8]) -> Cause
-    ensures { result ≡ value_cause word.now }
-{
-    match word {
-        [] => Cause::Plain,
-        [first, others @ ..] => {
-            if *first == b'-' || *first == b'+' {
-                signed_cause(*first, others)
-            } else if first.is_ascii_digit() {
-                wide(number_cause(word))
-            } else {
-                name_cause(word)
-            }
-        }
+        [b'-', b'0'] | [b'+', ..] => Cause::Is("it has a sign"),
+        [b'-', digits @ ..] => number_cause(digits, too_wide),
+        [first, ..] if first.is_ascii_digit() => number_cause(word, too_wide),
+        _ => name_cause(word),
     }
 }
 
 /// Why the word is not of the kind.
-#[tactic(auto, unfolding(crate::specs::Causes::cause_of))]
-pub(crate) fn cause_of(kind: FieldKind, word: &[u8]) -> Cause
-    ensures { result ≡ cause_of kind word.now }
-{
+pub(crate) fn cause_of(kind: FieldKind, word: &[u8]) -> Cause {
+    let too_great = "it is too great";
     match kind {
-        FieldKind::Actor | FieldKind::Scope | FieldKind::Task => number_cause(word),
-        FieldKind::Moment | FieldKind::Deadline => timed(number_cause(word)),
+        FieldKind::Actor | FieldKind::Scope | FieldKind::Task => number_cause(word, too_great),
+        FieldKind::Moment | FieldKind::Deadline => match number_cause(word, too_great) {
+            Cause::NoDigit(other) if other.is_ascii_lowercase() => {
+                Cause::Is("it is in milliseconds, without a unit")
+            }
+            cause => cause,
+        },
         FieldKind::Name => name_cause(word),
         FieldKind::Value => value_cause(word),
     }
+}
+
+/// A byte that is strange in a word.
+#[derive(Clone, Copy)]
+struct ShownStrange(u8);
+
+impl fmt::Display for ShownStrange {
+    fn fmt<W: fmt::Write>(&self, f: &mut fmt::Formatter<W>) -> fmt::Result {
+        if self.0 > 127 {
+            return f.write_str("a byte that is not ASCII");
+        }
+        write!(f, "{}", ShownByte(self.0))
+    }
+}
+
+impl fmt::Display for Cause {
+    fn fmt<W: fmt::Write>(&self, f: &mut fmt::Formatter<W>) -> fmt::Result {
+        match *self {
+            Cause::Plain => Ok(()),
+            Cause::Is(words) => write!(f, " ({words})"),
+            Cause::NoDigit(other) => write!(f, " ({} is not a digit)", ShownStrange(other)),
+            Cause::TooLongName(bytes) => write!(f, " (it has {bytes} bytes)"),
+            Cause::BeginsWith(first) => write!(f, " (it begins with {})", ShownStrange(first)),
+            Cause::HasByte(other) => write!(f, " (it has {})", ShownStrange(other)),
+        }
+    }
+}
+
+/// Whether the second byte is the first, or its small letter.
+fn is_lower_of(x: u8, y: u8) -> bool {
+    x == y || x.to_ascii_lowercase() == y
+}
+
+/// Whether the word is the known one but for capitals.
+fn is_same_letters(word: &[u8], known: &[u8]) -> bool {
+    for (x, y) in word.iter().zip(known) {
+        if !is_lower_of(*x, *y) {
+            return false;
+        }
+    }
+    word.len() == known.len()
+}
+
+/// The first of the known words that one edit makes of the word, or small letters.
+pub(crate) fn nearest(known: &[&'static [u8]], word: &[u8]) -> Option<&'static [u8]> {
+    for first in known {
+        if is_near(word, first) || is_same_letters(word, first) {
+            return Some(*first);
+        }
+    }
+    None
 }

@@ -5,7 +5,7 @@
 ghost use Rattle.refusal_reasons.specs.{FaultsFit, FaultsNameFirst, FieldsAreCalled, PlacesFit};
 
 /// A line has a fault just where it is a bad word.
-#[tactic(auto, using(crate::proofs::FaultsFit::faults_fit))]
+#[tactic(auto, using(crate::proofs::FieldsFit::faults_fit))]
 pub fn faults_fit()
     ensures { FaultsFit }
 {}
@@ -18,7 +18,7 @@ pub fn faults_name_the_first()
 {}
 
 /// A field that a form calls an actor, a scope or a task is the command's actor, scope or task.
-#[tactic(auto, using(crate::proofs::Called::form_called))]
+#[tactic(auto, using(crate::proofs::FieldsFit::form_called))]
 pub fn fields_are_called()
     ensures { FieldsAreCalled }
 {}

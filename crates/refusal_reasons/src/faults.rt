@@ -1,11 +1,9 @@
-//! Why a line is no command.
-ghost use Rattle.std.specs.Prelude.{◌≡◌};
-ghost use Rattle.refusal_reasons.specs.{Some, fault_of, fields, fields_fault, open_fault, shape_fault, stray_fault};
+//! Why a line is no command: its fields are looked at one after the other.
+ghost use Rattle.std.specs.Prelude.{◌+◌, ◌≡◌, ◌≤◌};
+ghost use Rattle.refusal_reasons.specs.{fault_of, fields, fields_fault, length, misfit};
 
-use crate::fields::{left_over, misfit, options_taken};
-use crate::shapes::{FieldKind, Shape, kinds, shape_of_word};
-use crate::words::is_kind;
-use script_words::{LINE_LIMIT, next_field};
+use crate::forms::{FieldKind, Slot, is_kind, is_open_word, slots};
+use script_words::{Keyword, LINE_LIMIT, keyword_of, next_field};
 
 /// Why a line is no command. Fields are counted from 0, behind the first word.
 #[derive(Clone, Copy)]
@@ -18,62 +16,48 @@ pub enum WordFault {
     NoForm,
     /// Of this form the field is to be of the kind, and is not.
     Wrong {
-        shape: Shape,
+        form: Keyword,
         index: usize,
         kind: FieldKind,
     },
     /// Of this form a field of the kind is missing.
     Missing {
-        shape: Shape,
+        form: Keyword,
         kind: FieldKind,
     },
-    /// Of this form the field is one too many.
+    /// Of this form the field is one too many. Of an open it may be one of its words, out of their order or there twice.
     Extra {
-        shape: Shape,
-        index: usize,
-    },
-    /// The field of an open is none of its options, or out of their order, or there twice.
-    Stray {
+        form: Keyword,
         index: usize,
     },
 }
 
-/// The fault of a word that is left over, if there is one. It is the field at the index.
-fn stray_fault(index: usize, text: &[u8]) -> Option<WordFault>
-    ensures { result ≡ stray_fault index (fields text.now) }
+/// The first field of the text, counted from the index, that is not of its kind, is missing or is too many.
+#[tactic(auto, unfolding(crate::specs::Faults::misfit))]
+fn misfit(form: Keyword, index: usize, slots: &[Slot], text: &[u8]) -> Option<WordFault>
+    requires { index + length slots.now ≤ 5 }
+    ensures { result ≡ misfit form index slots.now (fields text.now) }
 {
-    match next_field(text) {
-        Some(_) => Some(WordFault::Stray { index }),
-        None => None,
-    }
-}
-
-/// Why the text is not what stands behind `open`.
-fn open_fault(text: &[u8]) -> Option<WordFault>
-    ensures { result ≡ open_fault (fields text.now) }
-{
-    let shape = Shape::Open;
-    let kind = FieldKind::Actor;
-    let Some((actor, rest)) = next_field(text) else {
-        return Some(WordFault::Missing { shape, kind });
-    };
-    if is_kind(kind, actor) {
-        return stray_fault(1 + options_taken(rest), left_over(rest));
-    }
-    Some(WordFault::Wrong {
-        shape,
-        index: 0,
-        kind,
-    })
-}
-
-/// Why the text is not what stands behind the first word of a form of this shape.
-fn shape_fault(shape: Shape, text: &[u8]) -> Option<WordFault>
-    ensures { result ≡ shape_fault shape (fields text.now) }
-{
-    match shape {
-        Shape::Open => open_fault(text),
-        shape => misfit(shape, 0, kinds(shape), text),
+    match (slots, next_field(text)) {
+        ([], None) => None,
+        ([], Some(_)) => Some(WordFault::Extra { form, index }),
+        ([Slot::Must(kind), ..], None) => Some(WordFault::Missing { form, kind: *kind }),
+        ([Slot::May(_), others @ ..], None) => misfit(form, index, others, text),
+        ([Slot::Must(kind), others @ ..], Some((word, rest))) => {
+            let kind = *kind;
+            if is_kind(kind, word) {
+                misfit(form, index + 1, others, rest)
+            } else {
+                Some(WordFault::Wrong { form, index, kind })
+            }
+        }
+        ([Slot::May(word_of_open), others @ ..], Some((word, rest))) => {
+            if is_open_word(*word_of_open, word) {
+                misfit(form, index + 1, others, rest)
+            } else {
+                misfit(form, index, others, text)
+            }
+        }
     }
 }
 
@@ -86,8 +70,8 @@ fn fields_fault(text: &[u8]) -> Option<WordFault>
     if let [b'#', ..] = word {
         return None;
     }
-    match shape_of_word(word) {
-        Some(shape) => shape_fault(shape, args),
+    match keyword_of(word) {
+        Some(form) => misfit(form, 0, slots(form), args),
         None => Some(WordFault::NoForm),
     }
 }

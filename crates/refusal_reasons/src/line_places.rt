@@ -1,12 +1,9 @@
 //! Where a fault is in its line.
 ghost use Rattle.std.specs.Prelude.{◌+◌, ◌-◌, ◌≡◌, ◌≤◌};
-ghost use Rattle.refusal_reasons.specs.{Some, behind_first, field_place, is_space, length, max, picture_text, place_of, position_or_len, replicate, suc, take, text_from};
-ghost use Rattle.refusal_reasons.specs.{without_spaces};
+ghost use Rattle.refusal_reasons.specs.{behind_first, field_place, is_space, length, place_of, position_or_len, suc, text_from, without_spaces};
 
 use crate::faults::WordFault;
-use crate::line_shown::AllShown;
 use script_words::{LINE_LIMIT, field_len, without_spaces};
-use std::fmt;
 
 /// Where a fault is in its line.
 #[derive(Clone, Copy)]
@@ -37,6 +34,18 @@ fn behind_first(text: &[u8]) -> &[u8]
 {
     let begun = without_spaces(text);
     begun.split_at(field_len(begun)).1
+}
+
+/// The first field of the line.
+pub(crate) fn first_field(line: &[u8]) -> &[u8] {
+    let text = without_spaces(line);
+    text.split_at(field_len(text)).0
+}
+
+/// The field of this index behind the first one.
+pub(crate) fn later_field(line: &[u8], index: usize) -> &[u8] {
+    let text = text_from(behind_first(line), index);
+    text.split_at(field_len(text)).0
 }
 
 /// Where the first field of the text stands that is the end of a line.
@@ -84,81 +93,6 @@ pub fn place_of(line: &[u8], fault: WordFault) -> Place
         WordFault::NoForm => first_place(line),
         WordFault::Wrong { index, .. } => later_place(line, index),
         WordFault::Extra { index, .. } => later_place(line, index),
-        WordFault::Stray { index } => later_place(line, index),
         WordFault::Missing { .. } => gap(line.len() + 1),
-    }
-}
-
-/// So many spaces.
-#[derive(Clone, Copy)]
-struct Blanks(usize);
-
-impl fmt::Display for Blanks {
-    ghost output = { λ b. Some (replicate b.0 32) };
-
-    fn fmt<W: fmt::Write>(&self, f: &mut fmt::Formatter<W>) -> fmt::Result {
-        for _blank in 0..self.0 {
-            f.write_str(" ")?;
-        }
-        Ok(())
-    }
-}
-
-/// So many carets.
-#[derive(Clone, Copy)]
-struct Carets(usize);
-
-impl fmt::Display for Carets {
-    ghost output = { λ c. Some (replicate c.0 94) };
-
-    fn fmt<W: fmt::Write>(&self, f: &mut fmt::Formatter<W>) -> fmt::Result {
-        for _caret in 0..self.0 {
-            f.write_str("^")?;
-        }
-        Ok(())
-    }
-}
-
-/// The line as far as one may go, with all its bytes.
-fn within_limit(line: &[u8]) -> &[u8]
-    ensures { result.now ≡ take LINE_LIMIT line.now }
-{
-    if line.len() <= LINE_LIMIT {
-        return line;
-    }
-    &line[..LINE_LIMIT]
-}
-
-/// How many carets stand below a field.
-fn caret_count(width: usize) -> usize
-    ensures { result ≡ max 1 width }
-{
-    width.max(1)
-}
-
-/// How many bytes stand before the column.
-fn before(column: usize) -> usize
-    ensures { result ≡ column - 1 }
-{
-    if column == 0 { 0 } else { column - 1 }
-}
-
-/// The line, and below it a caret for each byte at the place, one at the least. Each line is indented.
-#[derive(Clone, Copy)]
-pub struct ShownPlace<'a> {
-    /// The line, without its line feed.
-    pub line: &'a [u8],
-    /// The place in it.
-    pub place: Place,
-}
-
-impl fmt::Display for ShownPlace<'_> {
-    ghost output = { λ p. Some (picture_text p.line.now p.place) };
-
-    fn fmt<W: fmt::Write>(&self, f: &mut fmt::Formatter<W>) -> fmt::Result {
-        let line = AllShown(within_limit(self.line));
-        let blanks = Blanks(before(self.place.column));
-        let carets = Carets(caret_count(self.place.width));
-        write!(f, "    {line}\n    {blanks}{carets}\n")
     }
 }

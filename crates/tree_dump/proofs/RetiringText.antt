@@ -1,12 +1,11 @@
 -- The text of the tree behind a retirement is that without it.
-use Rattle.std.proofs.Common.{[], ℕ, ◌++◌, ◌+◌, ◌-◌, ◌∙◌, ◌∷◌, ◌≡◌, Bool, List, None, Option, Some, ap, ap₂, arith, cond, false, map, nat_lt, refl, slice_get, subst, suc, sym, true, zero}
+use Rattle.std.proofs.Common.{[], ℕ, ◌++◌, ◌+◌, ◌-◌, ◌∙◌, ◌∷◌, ◌≡◌, Bool, List, None, Option, Some, ap, ap₂, arith, codes, cond, false, map, nat_lt, refl, slice_get, subst, suc, sym, true, zero}
 use Rattle.scope_log.proofs.Past.{IsTask}
 use Rattle.tree_dump.specs.{Event, Finished, History, LEVEL_LIMIT, Label, NamesNone, Never, Realm, Retirable, Running, ScopeInfo, Stage, TextTree.nested, TextTree.open_text, TreeStays, Waiting, aged_scope, counts, flat_map}
-use Rattle.tree_dump.specs.{for_text, forked_count, found_wait, info, inner, is_task_of, label, late_by, late_text, line, moment_line, no_clock, option_and_then, option_map_or, outermost, reading_in, retired, scope_age}
-use Rattle.tree_dump.specs.{scope_line, scope_lines, scope_text, since, stage, state, task_age, task_ages, task_line, task_lines, task_text, task_wait, task_waits, tasks, tasks_lines, tasks_of, tree_by, tree_text, unretired}
+use Rattle.tree_dump.specs.{forked_count, found_wait, info, inner, is_task_of, label, late_by, line, moment_line, no_clock, option_and_then, option_map_or, outermost, reading_in, retired, scope_age}
+use Rattle.tree_dump.specs.{scope_line, scope_lines, scope_text, since, span_text, stage, state, task_age, task_ages, task_line, task_lines, task_text, task_wait, tasks, tasks_lines, tasks_of, tree_by, tree_text, unretired, wait_text}
 use Rattle.tree_dump.proofs.Lemmas.{IsScope, filter_listed, greater, inner_new, leaves_alike, outermost_new, same_counts, same_info, same_inner, same_label, same_moment, same_outermost, same_stage, same_state, same_tasks_of}
 use Rattle.tree_dump.proofs.Walked.{info_scope}
-use Rattle.tree_dump.specs.Ages as ages
 
 flat_same : (f g : ℕ → List ℕ) (ks : List ℕ) → map f ks ≡ map g ks → flat_map f ks ≡ flat_map g ks
 flat_same f g [] e = refl
@@ -27,14 +26,16 @@ no_reading {A = A} before n = by (nat_lt before n)
     by true = refl
     by false = refl
 
-no_age : (h : History) (k : ℕ) (st : Stage) → for_text (task_age no_clock h k st) ≡ []
-no_age h k Waiting = ap (λ o. for_text (option_and_then (since no_clock) o)) (no_reading h.base.tasks k)
-no_age h k Running = ap (λ o. for_text (option_and_then (since no_clock) o)) (no_reading h.base.tasks k)
+no_age : (h : History) (k : ℕ) (st : Stage) → span_text (codes " for ") (task_age no_clock h k st) ≡ []
+unfolding span_text
+no_age h k Waiting = ap (λ o. span_text (codes " for ") (option_and_then (since no_clock) o)) (no_reading h.base.tasks k)
+no_age h k Running = ap (λ o. span_text (codes " for ") (option_and_then (since no_clock) o)) (no_reading h.base.tasks k)
 no_age h k Never = refl
 no_age h k Finished = refl
 
-no_wait : (h : History) (k : ℕ) (st : Stage) → task_waits None (task_wait no_clock h k st) ≡ []
-no_wait h k Running = ap (λ o. task_waits None (found_wait o)) (no_reading h.base.tasks k)
+no_wait : (h : History) (k : ℕ) (st : Stage) → wait_text (codes ", ") None (task_wait no_clock h k st) ≡ []
+unfolding wait_text
+no_wait h k Running = ap (λ o. wait_text (codes ", ") None (found_wait o)) (no_reading h.base.tasks k)
 no_wait h k Waiting = refl
 no_wait h k Never = refl
 no_wait h k Finished = refl
@@ -52,9 +53,9 @@ untimed h depth k = ap (λ t. option_map_or (λ (l : Label). line depth (task_te
 no_scope_age : (h : History) (s : ℕ) → scope_age no_clock h s ≡ None
 no_scope_age h s = ap (option_and_then (since no_clock)) (no_reading h.base.scopes s)
 
-untimed_scope : (h : History) (depth : ℕ) (i : ScopeInfo) → scope_line no_clock h depth i ≡ line depth (scope_text i (counts h i.scope) None ++ [])
-unfolding aged_scope
-untimed_scope h depth i = ap (λ o. line depth (scope_text i (counts h i.scope) None ++ (ages.open_text o ++ late_text (option_and_then (λ (age : ℕ). late_by no_clock i.joined i.deadline) o)))) (no_scope_age h i.scope)
+untimed_scope : (h : History) (depth : ℕ) (i : ScopeInfo) → scope_line no_clock h depth i ≡ line depth (scope_text i (counts h i.scope) None ++ [] ++ [])
+unfolding aged_scope span_text
+untimed_scope h depth i = ap (λ o. line depth (scope_text i (counts h i.scope) None ++ span_text (codes ", open for ") o ++ span_text (codes ", late by ") (option_and_then (λ (age : ℕ). late_by no_clock i.joined i.deadline) o))) (no_scope_age h i.scope)
 
 module _ (r : Retirable) (es : List Event) (none : NamesNone r es) where
   -- a scope that lies somewhere was not let go
@@ -84,7 +85,7 @@ module _ (r : Retirable) (es : List Event) (none : NamesNone r es) where
 
     scope_alike : (depth : ℕ) (i : ScopeInfo) → IsScope r i.scope → scope_lines no_clock (unretired r es) (nested no_clock (unretired r es) n) depth i ≡ scope_lines no_clock (retired r es) (nested no_clock (retired r es) n) depth i
     scope_alike depth i new =
-        ap₂ (λ xs ys. xs ++ ys) (untimed_scope (unretired r es) depth i ∙ (ap (λ c. line depth (scope_text i c None ++ [])) (same_counts r es none i.scope new) ∙ sym (untimed_scope (retired r es) depth i)))
+        ap₂ (λ xs ys. xs ++ ys) (untimed_scope (unretired r es) depth i ∙ (ap (λ c. line depth (scope_text i c None ++ [] ++ [])) (same_counts r es none i.scope new) ∙ sym (untimed_scope (retired r es) depth i)))
         (ap₂ (λ xs ys. xs ++ ys) (tasks_alike (depth + 1) i.scope new)
         (ap (nested no_clock (unretired r es) n (depth + 1)) (same_inner r es i.scope new) ∙ inside (depth + 1) (inner (retired r es) i.scope) (λ t found. inner_new r es i.scope t found)))
 

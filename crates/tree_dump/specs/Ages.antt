@@ -70,22 +70,7 @@ scope_late c h i = option_and_then (λ age. late_by c i.joined i.deadline) (scop
 abbrev pub due_in : Clock → ScopeInfo → Option ℕ
 due_in c i = option_and_then (λ now. option_and_then (λ d. if not i.joined && is_none i.cause && nat_le now d then Some (d - now) else None) i.deadline) c.now
 
--- milliseconds, from a second on as seconds with tenths
-unfoldable pub duration_text : ℕ → List ℕ
-duration_text ms = if nat_lt ms 1000 then decimal ms ++ codes " ms" else decimal (ms / 1000) ++ codes "." ++ decimal (ms / 100 % 10) ++ codes " s"
-
-abbrev pub for_text : Option ℕ → List ℕ
-for_text None = []
-for_text (Some ms) = codes " for " ++ duration_text ms
-
-abbrev pub open_text : Option ℕ → List ℕ
-open_text None = []
-open_text (Some ms) = codes ", open for " ++ duration_text ms
-
-abbrev pub late_text : Option ℕ → List ℕ
-late_text None = []
-late_text (Some ms) = codes ", late by " ++ duration_text ms
-
--- behind the line of a scope
-abbrev pub aged_text : Option ℕ → Option ℕ → List ℕ
-aged_text age late = open_text age ++ late_text late
+-- these words, and behind them so many milliseconds, from a second on as seconds with tenths; nothing if none are known
+unfoldable pub span_text : List ℕ → Option ℕ → List ℕ
+span_text words None = []
+span_text words (Some ms) = if nat_lt ms 1000 then words ++ decimal ms ++ codes " ms" else words ++ decimal (ms / 1000) ++ codes "." ++ decimal (ms / 100 % 10) ++ codes " s"

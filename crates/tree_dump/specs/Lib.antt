@@ -20,8 +20,7 @@ pub mod Summed
 pub mod ShowsLevels
 pub mod Terms
 unfoldable pub use Terms.*
-pub use Ages.{Clock, aged_text, clock_of, due_in, for_text, late_by, late_text, no_clock, reading_in, runs_or_ran, scope_age, scope_late, scope_since, since, task_age, task_reading, task_times}
-unfoldable pub use Ages.{duration_text}
+unfoldable pub use Ages.*
 pub use Awaits.*
 unfoldable pub use Kept.*
 unfoldable pub use Objects.*

@@ -1,7 +1,7 @@
 -- The lines of a tree, without their indents.
 use Rattle.std.specs.Prelude.{[], ℕ, ◌++◌, ◌+◌, Bool, List, None, Option, Some, codes, false, suc, true, zero}
 use Rattle.tree_dump.specs.Terms.{Cause, CauseKind, Counts, CurrentWait, Expiry, Fail, Finished, MoveOn, Name, Never, Running, ScopeInfo, Stage, State, Waiting, decimal, joiner_text, state_word, text_of}
-use Rattle.tree_dump.specs.{Ages.duration_text, Waits.main_waits, Words.scope_stage_word}
+use Rattle.tree_dump.specs.{Ages.span_text, Waits.wait_text, Words.scope_stage_word}
 use Rattle.scope_rules.specs.declared.types.answers.CauseKind.TheVariants as kind
 
 -- the last reading of the clock, if it was read
@@ -11,7 +11,7 @@ now_text (Some now) = codes ", now " ++ decimal now
 
 -- the first line: the moment, that reading, and in which call main waits, if it does
 unfoldable pub moment_line : ℕ → Option ℕ → Option CurrentWait → List ℕ
-moment_line moment now main = codes "moment " ++ decimal moment ++ now_text now ++ main_waits now main ++ codes "\n"
+moment_line moment now main = codes "moment " ++ decimal moment ++ now_text now ++ wait_text (codes ", main ") now main ++ codes "\n"
 
 -- two spaces for each level
 abbrev pub indent : ℕ → List ℕ
@@ -23,14 +23,9 @@ abbrev pub owner_text : ℕ → List ℕ
 owner_text zero = codes "main"
 owner_text (suc n) = codes "task " ++ decimal (suc n)
 
-abbrev pub joined_text : Bool → List ℕ
-joined_text false = []
-joined_text true = codes ", joined"
-
--- in how long it comes, if that is known
-unfoldable pub due_text : Option ℕ → List ℕ
-due_text None = []
-due_text (Some ms) = codes ", in " ++ duration_text ms
+abbrev pub words_if : Bool → List ℕ → List ℕ
+words_if false words = []
+words_if true words = words
 
 -- the scope's own deadline, if it has one, whether the join then moves on, and in how long it comes
 abbrev pub expiry_text : Expiry → List ℕ
@@ -39,11 +34,7 @@ expiry_text MoveOn = codes " to move on"
 
 abbrev pub deadline_text : Option ℕ → Expiry → Option ℕ → List ℕ
 deadline_text None expiry due = []
-deadline_text (Some moment) expiry due = codes ", deadline " ++ decimal moment ++ expiry_text expiry ++ due_text due
-
-abbrev pub shield_text : Bool → List ℕ
-shield_text false = []
-shield_text true = codes ", shielded"
+deadline_text (Some moment) expiry due = codes ", deadline " ++ decimal moment ++ expiry_text expiry ++ span_text (codes ", in ") due
 
 abbrev pub kind_text : CauseKind → List ℕ
 kind_text kind.Call = codes "a call on"
@@ -65,7 +56,7 @@ head_text i = codes "scope " ++ decimal i.scope ++ codes " " ++ scope_stage_word
 
 -- the line of a scope, by itself, by how many tasks it has at each stage, and by in how long its deadline comes
 abbrev pub scope_text : ScopeInfo → Counts → Option ℕ → List ℕ
-scope_text i c due = head_text i ++ joined_text i.joined ++ deadline_text i.deadline i.expiry due ++ shield_text i.shield ++ cause_text i.cause ++ awaits_text c
+scope_text i c due = head_text i ++ words_if i.joined (codes ", joined") ++ deadline_text i.deadline i.expiry due ++ words_if i.shield (codes ", shielded") ++ cause_text i.cause ++ awaits_text c
 
 -- how far a task has come, and what can be read of it once no more comes of it
 abbrev pub progress_text : Stage → State → List ℕ

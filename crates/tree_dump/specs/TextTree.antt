@@ -1,8 +1,8 @@
 -- The tree of the scopes that are not closed, as text.
 use Rattle.std.specs.Prelude.{[], ℕ, ◌++◌, ◌+◌, ◌∷◌, List, None, Option, Some, codes, suc, zero}
 use Rattle.tree_dump.specs.Terms.{Counts, History, LEVEL_LIMIT, ScopeInfo, counts, flat_map, info, inner, label, moment, option_and_then, option_map_or, outermost, stage, state, tasks_of}
-use Rattle.tree_dump.specs.{Ages.Clock, Ages.aged_text, Ages.due_in, Ages.for_text, Ages.no_clock, Ages.scope_age, Ages.scope_late, Ages.task_age, TextLines.indent, TextLines.moment_line, TextLines.scope_text, TextLines.task_text}
-use Rattle.tree_dump.specs.{Waits.task_wait, Waits.task_waits}
+use Rattle.tree_dump.specs.{Ages.Clock, Ages.due_in, Ages.no_clock, Ages.scope_age, Ages.scope_late, Ages.span_text, Ages.task_age, TextLines.indent, TextLines.moment_line, TextLines.scope_text, TextLines.task_text}
+use Rattle.tree_dump.specs.{Waits.task_wait, Waits.wait_text}
 
 -- a line at this depth
 abbrev pub line : ℕ → List ℕ → List ℕ
@@ -10,7 +10,7 @@ line depth text = indent depth ++ text ++ 10 ∷ []
 
 -- a scope, with in how long its deadline comes, how long it is open and how late it is
 unfoldable pub aged_scope : ScopeInfo → Counts → Option ℕ → Option ℕ → Option ℕ → List ℕ
-aged_scope i c due age late = scope_text i c due ++ aged_text age late
+aged_scope i c due age late = scope_text i c due ++ span_text (codes ", open for ") age ++ span_text (codes ", late by ") late
 
 -- the line of the scope of which there is this to say
 abbrev pub scope_line : Clock → History → ℕ → ScopeInfo → List ℕ
@@ -18,7 +18,7 @@ scope_line c h depth i = line depth (aged_scope i (counts h i.scope) (due_in c i
 
 -- how long task k waits or runs, and in which call it waits
 abbrev pub task_ages : Clock → History → ℕ → List ℕ
-task_ages c h k = for_text (task_age c h k (stage h k)) ++ task_waits c.now (task_wait c h k (stage h k))
+task_ages c h k = span_text (codes " for ") (task_age c h k (stage h k)) ++ wait_text (codes ", ") c.now (task_wait c h k (stage h k))
 
 -- the line of task k, if it was forked since the base
 unfoldable pub task_line : Clock → History → ℕ → ℕ → List ℕ

@@ -1,7 +1,7 @@
 -- In which calls actors wait, and how long.
 use Rattle.std.specs.Prelude.{[], ℕ, ◌++◌, ◌-◌, List, None, Option, Some, codes, option_map}
 use Rattle.tree_dump.specs.Terms.{Close, CurrentWait, History, Join, NextDone, Permit, Receive, Ring, Running, Send, Sleep, Stage, Stop, WaitCall, Waits, option_and_then}
-use Rattle.tree_dump.specs.Ages.{Clock, for_text, reading_in}
+use Rattle.tree_dump.specs.Ages.{Clock, reading_in, span_text}
 
 -- the same readings, and these waits
 abbrev pub with_waits : Clock → Waits → Clock
@@ -32,16 +32,7 @@ call_word Ring = codes "wait_rung"
 abbrev pub waited : Option ℕ → CurrentWait → Option ℕ
 waited now wait = option_map (λ n. n - wait.since) now
 
--- in which call, and how long
-unfoldable pub wait_text : Option ℕ → CurrentWait → List ℕ
-wait_text now wait = codes "waits in " ++ call_word wait.call ++ for_text (waited now wait)
-
--- behind the line of a task
-abbrev pub task_waits : Option ℕ → Option CurrentWait → List ℕ
-task_waits now None = []
-task_waits now (Some wait) = codes ", " ++ wait_text now wait
-
--- behind the moment
-abbrev pub main_waits : Option ℕ → Option CurrentWait → List ℕ
-main_waits now None = []
-main_waits now (Some wait) = codes ", main " ++ wait_text now wait
+-- these words, and in which call somebody waits, and how long; nothing if none does
+unfoldable pub wait_text : List ℕ → Option ℕ → Option CurrentWait → List ℕ
+wait_text words now None = []
+wait_text words now (Some wait) = words ++ codes "waits in " ++ call_word wait.call ++ span_text (codes " for ") (waited now wait)

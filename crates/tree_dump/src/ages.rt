@@ -1,7 +1,6 @@
 //! How long tasks run and scopes are open, by a clock.
 ghost use Rattle.std.specs.Prelude.{◌≡◌, Some, option_map};
-ghost use Rattle.tree_dump.specs.{Ages.open_text, aged_text, clock_of, due_in, duration_text, for_text, late_by, late_text, no_clock, option_and_then, reading_in, runs_or_ran, scope_age, scope_late, scope_since, since, task_age};
-ghost use Rattle.tree_dump.specs.{task_reading, task_times, with_waits};
+ghost use Rattle.tree_dump.specs.{clock_of, due_in, late_by, no_clock, option_and_then, reading_in, runs_or_ran, scope_age, scope_late, scope_since, since, span_text, task_age, task_reading, task_times, with_waits};
 
 use crate::waits::Waits;
 use scope_checks::Readings;
@@ -61,11 +60,11 @@ pub(crate) fn reading_in<T: Copy>(readings: &[T], before: u32, number: u32) -> O
 }
 
 /// How long it is since a reading, if there is one, and the clock was read.
-fn since(ages: &Ages<'_>, reading: Option<u32>) -> Option<u32>
+fn since(ages: &Ages<'_>, reading: Option<u32>) -> Option<u64>
     ensures { result ≡ option_and_then (since (clock_of ages.now)) reading }
 {
     match (ages.last, reading) {
-        (Some(last), Some(reading)) => Some(last.saturating_sub(reading)),
+        (Some(last), Some(reading)) => Some(u64::from(last.saturating_sub(reading))),
         _ => None,
     }
 }
@@ -92,14 +91,14 @@ pub(crate) fn task_age<R: Readings>(
     ages: &Ages<'_>,
     task: TaskId,
     stage: Stage,
-) -> Option<u32>
+) -> Option<u64>
     ensures { result ≡ task_age (clock_of ages.now) (R.history readings.now) task stage }
 {
     since(ages, task_reading(readings, ages, task, stage))
 }
 
 /// How long the scope is open, in milliseconds, if the reading as it was opened is known.
-pub(crate) fn scope_age<R: Readings>(readings: &R, ages: &Ages<'_>, scope: ScopeId) -> Option<u32>
+pub(crate) fn scope_age<R: Readings>(readings: &R, ages: &Ages<'_>, scope: ScopeId) -> Option<u64>
     ensures { result ≡ scope_age (clock_of ages.now) (R.history readings.now) scope }
 {
     since(
@@ -195,81 +194,20 @@ pub(crate) fn due_in(ages: &Ages<'_>, info: ScopeInfo) -> Option<u64>
     }
 }
 
-/// Milliseconds, from a second on as seconds with tenths.
+/// These words, and behind them so many milliseconds, from a second on as seconds with tenths; nothing if none are known.
 #[derive(Clone, Copy)]
-pub(crate) struct ShownDuration(pub(crate) u64);
+pub(crate) struct ShownSpan(pub(crate) &'static str, pub(crate) Option<u64>);
 
-impl fmt::Display for ShownDuration {
-    ghost output = { λ d. Some (duration_text d.0) };
+impl fmt::Display for ShownSpan {
+    ghost output = { λ s. Some (span_text s.0.now s.1) };
 
-    #[tactic(auto, unfolding(crate::specs::Ages::duration_text))]
+    #[tactic(auto, unfolding(crate::specs::Ages::span_text))]
     fn fmt<W: fmt::Write>(&self, f: &mut fmt::Formatter<W>) -> fmt::Result {
-        if self.0 < 1000 {
-            write!(f, "{} ms", self.0)
-        } else {
-            write!(f, "{}.{} s", self.0 / 1000, self.0 / 100 % 10)
-        }
-    }
-}
-
-/// How long a task waits or runs.
-#[derive(Clone, Copy)]
-pub(crate) struct ShownFor(pub(crate) Option<u32>);
-
-impl fmt::Display for ShownFor {
-    ghost output = { λ s. Some (for_text s.0) };
-
-    fn fmt<W: fmt::Write>(&self, f: &mut fmt::Formatter<W>) -> fmt::Result {
-        match self.0 {
+        let words = self.0;
+        match self.1 {
             None => Ok(()),
-            Some(millis) => write!(f, " for {}", ShownDuration(u64::from(millis))),
+            Some(millis) if millis < 1000 => write!(f, "{words}{millis} ms"),
+            Some(millis) => write!(f, "{words}{}.{} s", millis / 1000, millis / 100 % 10),
         }
-    }
-}
-
-/// How long a scope is open.
-#[derive(Clone, Copy)]
-struct ShownOpen(Option<u32>);
-
-impl fmt::Display for ShownOpen {
-    ghost output = { λ s. Some (open_text s.0) };
-
-    fn fmt<W: fmt::Write>(&self, f: &mut fmt::Formatter<W>) -> fmt::Result {
-        match self.0 {
-            None => Ok(()),
-            Some(millis) => write!(f, ", open for {}", ShownDuration(u64::from(millis))),
-        }
-    }
-}
-
-/// How late a scope is.
-#[derive(Clone, Copy)]
-struct ShownLate(Option<u64>);
-
-impl fmt::Display for ShownLate {
-    ghost output = { λ s. Some (late_text s.0) };
-
-    fn fmt<W: fmt::Write>(&self, f: &mut fmt::Formatter<W>) -> fmt::Result {
-        match self.0 {
-            None => Ok(()),
-            Some(millis) => write!(f, ", late by {}", ShownDuration(millis)),
-        }
-    }
-}
-
-/// How long a scope is open, and how late it is.
-#[derive(Clone, Copy)]
-pub(crate) struct ShownAged {
-    pub(crate) age: Option<u32>,
-    pub(crate) late: Option<u64>,
-}
-
-impl fmt::Display for ShownAged {
-    ghost output = { λ s. Some (aged_text s.age s.late) };
-
-    fn fmt<W: fmt::Write>(&self, f: &mut fmt::Formatter<W>) -> fmt::Result {
-        let open = ShownOpen(self.age);
-        let late = ShownLate(self.late);
-        write!(f, "{open}{late}")
     }
 }

@@ -30,6 +30,7 @@ pub fn tree_shows_each_once()
 {}
 
 /// The line of a scope in a tree says how many of its tasks wait or run, and how many were forked in it.
+#[tactic(auto, using(crate::proofs::Awaits::tree_awaits))]
 pub fn tree_awaits()
     ensures { TreeAwaits }
 {}
@@ -41,6 +42,7 @@ pub fn awaited_shows()
 {}
 
 /// The sums of a legal history say how many scopes are not closed, and how many tasks of those scopes are at each stage.
+#[tactic(auto, using(crate::proofs::Summed::sums_count))]
 pub fn sums_count()
     ensures { SumsCount }
 {}

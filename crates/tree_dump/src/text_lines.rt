@@ -1,10 +1,9 @@
 //! The lines of a tree, without their indents.
 ghost use Rattle.std.specs.Prelude.{◌+◌, ◌<◌, ◌^◌, ◌≡◌, Some};
-ghost use Rattle.tree_dump.specs.{aged_scope, awaits_text, cause_text, deadline_text, due_text, expiry_text, head_text, indent, joined_text, kind_text, moment_line, now_text, owner_text, progress_text, scope_text, shield_text};
-ghost use Rattle.tree_dump.specs.{task_text};
+ghost use Rattle.tree_dump.specs.{aged_scope, awaits_text, cause_text, deadline_text, expiry_text, head_text, indent, kind_text, moment_line, now_text, owner_text, progress_text, scope_text, task_text, words_if};
 
-use crate::ages::{ShownAged, ShownDuration};
-use crate::waits::{CurrentWait, ShownMainWait};
+use crate::ages::ShownSpan;
+use crate::waits::{CurrentWait, ShownWait};
 use crate::words::scope_stage_word;
 use scope_log::ShownJoiner;
 use scope_rules::types::infos::ScopeInfo;
@@ -70,27 +69,12 @@ impl fmt::Display for ShownMoment {
     #[tactic(auto, unfolding(crate::specs::TextLines::moment_line))]
     fn fmt<W: fmt::Write>(&self, f: &mut fmt::Formatter<W>) -> fmt::Result {
         let now = ShownNow(self.now);
-        let main = ShownMainWait {
+        let main = ShownWait {
+            words: ", main ",
             now: self.now,
             wait: self.main,
         };
         write!(f, "moment {}{now}{main}\n", self.moment)
-    }
-}
-
-/// In how long a deadline comes, if that is known.
-#[derive(Clone, Copy)]
-struct ShownDue(Option<u64>);
-
-impl fmt::Display for ShownDue {
-    ghost output = { λ d. Some (due_text d.0) };
-
-    #[tactic(auto, unfolding(crate::specs::TextLines::due_text))]
-    fn fmt<W: fmt::Write>(&self, f: &mut fmt::Formatter<W>) -> fmt::Result {
-        match self.0 {
-            None => Ok(()),
-            Some(millis) => write!(f, ", in {}", ShownDuration(millis)),
-        }
     }
 }
 
@@ -110,7 +94,7 @@ impl fmt::Display for ShownDeadline {
             return Ok(());
         };
         let expiry = expiry_text(self.expiry);
-        let due = ShownDue(self.due);
+        let due = ShownSpan(", in ", self.due);
         write!(f, ", deadline {moment}{expiry}{due}")
     }
 }
@@ -190,13 +174,13 @@ impl fmt::Display for ShownScope {
 
     fn fmt<W: fmt::Write>(&self, f: &mut fmt::Formatter<W>) -> fmt::Result {
         let head = ShownHead(self.info);
-        let joined = joined_text(self.info.joined);
+        let joined = words_if(self.info.joined, ", joined");
         let deadline = ShownDeadline {
             deadline: self.info.deadline,
             expiry: self.info.expiry,
             due: self.due,
         };
-        let shield = shield_text(self.info.shield);
+        let shield = words_if(self.info.shield, ", shielded");
         let cause = ShownCause(self.info.cause);
         let counts = ShownCounts(self.counts);
         write!(f, "{head}{joined}{deadline}{shield}{cause}{counts}")
@@ -210,7 +194,7 @@ pub(crate) struct AgedScope {
     pub(crate) info: ScopeInfo,
     pub(crate) counts: Counts,
     pub(crate) due: Option<u64>,
-    pub(crate) age: Option<u32>,
+    pub(crate) age: Option<u64>,
     pub(crate) late: Option<u64>,
 }
 
@@ -224,11 +208,9 @@ impl fmt::Display for AgedScope {
             counts: self.counts,
             due: self.due,
         };
-        let aged = ShownAged {
-            age: self.age,
-            late: self.late,
-        };
-        write!(f, "{scope}{aged}")
+        let open = ShownSpan(", open for ", self.age);
+        let late = ShownSpan(", late by ", self.late);
+        write!(f, "{scope}{open}{late}")
     }
 }
 
@@ -281,18 +263,11 @@ fn added(some: u32, others: u32) -> u64
     u64::from(some) + u64::from(others)
 }
 
-/// Whether the scope is joined.
-fn joined_text(joined: bool) -> &'static str
-    ensures { result.now ≡ joined_text joined }
+/// These words, if it is so.
+fn words_if(is_so: bool, words: &'static str) -> &'static str
+    ensures { result.now ≡ words_if is_so words.now }
 {
-    if joined { ", joined" } else { "" }
-}
-
-/// Whether cancels from around stop short of the scope.
-fn shield_text(shield: bool) -> &'static str
-    ensures { result.now ≡ shield_text shield }
-{
-    if shield { ", shielded" } else { "" }
+    if is_so { words } else { "" }
 }
 
 /// What made the cancel.

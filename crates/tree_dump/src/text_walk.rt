@@ -2,10 +2,10 @@
 ghost use Rattle.std.specs.Prelude.{◌++◌, ◌+◌, ◌≡◌, ◌≤◌, IfOk, OnOk, string_bytes};
 ghost use Rattle.tree_dump.specs.{Passes, TextTree.nested, clock_of, moment, moment_line, scope_check, scope_line, task_line, tree_by, tree_text};
 
-use crate::ages::{Ages, ShownFor, due_in, scope_age, scope_late, task_age};
+use crate::ages::{Ages, ShownSpan, due_in, scope_age, scope_late, task_age};
 use crate::text_lines::{AgedScope, Indent, ShownMoment, ShownTask};
 use crate::told::info_at;
-use crate::waits::{ShownTaskWait, task_wait};
+use crate::waits::{ShownWait, task_wait};
 use scope_checks::Readings;
 use scope_rules::types::capacity::LEVEL_LIMIT;
 use scope_rules::types::infos::ScopeInfo;
@@ -56,8 +56,9 @@ pub(crate) fn append_task_line<R: Readings>(
         stage,
         state: readings.state(task),
     };
-    let running = ShownFor(task_age(readings, ages, task, stage));
-    let waits = ShownTaskWait {
+    let running = ShownSpan(" for ", task_age(readings, ages, task, stage));
+    let waits = ShownWait {
+        words: ", ",
         now: ages.last,
         wait: task_wait(readings, ages, task, stage),
     };

@@ -1,8 +1,8 @@
 //! In which calls actors wait: what no history has, and a tree may say.
 ghost use Rattle.std.specs.Prelude.{[], ◌≡◌, None, Some};
-ghost use Rattle.tree_dump.specs.{call_word, clock_of, main_waits, task_wait, task_waits, wait_text, waited};
+ghost use Rattle.tree_dump.specs.{call_word, clock_of, task_wait, wait_text, waited};
 
-use crate::ages::{Ages, ShownFor, reading_in};
+use crate::ages::{Ages, ShownSpan, reading_in};
 use scope_checks::Readings;
 use scope_rules::{Stage, TaskId};
 use std::fmt;
@@ -95,67 +95,34 @@ fn call_word(call: WaitCall) -> &'static str
 }
 
 /// How long the wait lasts by now, if the clock was read.
-fn waited(now: Option<u32>, wait: CurrentWait) -> Option<u32>
+fn waited(now: Option<u32>, wait: CurrentWait) -> Option<u64>
     ensures { result ≡ waited now wait }
 {
     match now {
-        Some(now) => Some(now.saturating_sub(wait.since)),
+        Some(now) => Some(u64::from(now.saturating_sub(wait.since))),
         None => None,
     }
 }
 
-/// In which call somebody waits, and how long.
+/// These words, and in which call somebody waits, and how long; nothing if none does.
 #[derive(Clone, Copy)]
-struct ShownWait {
-    now: Option<u32>,
-    wait: CurrentWait,
+pub(crate) struct ShownWait {
+    pub(crate) words: &'static str,
+    pub(crate) now: Option<u32>,
+    pub(crate) wait: Option<CurrentWait>,
 }
 
 impl fmt::Display for ShownWait {
-    ghost output = { λ w. Some (wait_text w.now w.wait) };
+    ghost output = { λ w. Some (wait_text w.words.now w.now w.wait) };
 
     #[tactic(auto, unfolding(crate::specs::Waits::wait_text))]
     fn fmt<W: fmt::Write>(&self, f: &mut fmt::Formatter<W>) -> fmt::Result {
-        let call = call_word(self.wait.call);
-        let waited = ShownFor(waited(self.now, self.wait));
-        write!(f, "waits in {call}{waited}")
-    }
-}
-
-/// Behind the line of a task: in which call it waits, if it does.
-#[derive(Clone, Copy)]
-pub(crate) struct ShownTaskWait {
-    pub(crate) now: Option<u32>,
-    pub(crate) wait: Option<CurrentWait>,
-}
-
-impl fmt::Display for ShownTaskWait {
-    ghost output = { λ w. Some (task_waits w.now w.wait) };
-
-    fn fmt<W: fmt::Write>(&self, f: &mut fmt::Formatter<W>) -> fmt::Result {
-        let now = self.now;
-        match self.wait {
-            None => Ok(()),
-            Some(wait) => write!(f, ", {}", ShownWait { now, wait }),
-        }
-    }
-}
-
-/// Behind the moment: in which call main waits, if it does.
-#[derive(Clone, Copy)]
-pub(crate) struct ShownMainWait {
-    pub(crate) now: Option<u32>,
-    pub(crate) wait: Option<CurrentWait>,
-}
-
-impl fmt::Display for ShownMainWait {
-    ghost output = { λ w. Some (main_waits w.now w.wait) };
-
-    fn fmt<W: fmt::Write>(&self, f: &mut fmt::Formatter<W>) -> fmt::Result {
-        let now = self.now;
-        match self.wait {
-            None => Ok(()),
-            Some(wait) => write!(f, ", main {}", ShownWait { now, wait }),
-        }
+        let Some(wait) = self.wait else {
+            return Ok(());
+        };
+        let words = self.words;
+        let call = call_word(wait.call);
+        let waited = ShownSpan(" for ", waited(self.now, wait));
+        write!(f, "{words}waits in {call}{waited}")
     }
 }

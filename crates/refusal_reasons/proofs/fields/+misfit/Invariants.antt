@@ -1,5 +1,0 @@
-use Rattle.refusal_reasons.specs.{length}
-use Rattle.refusal_reasons.proofs.fields.+misfit.Given as goal
-
-abbrev pub decreases-misfit : goal.decreases-misfit
-decreases-misfit l = length l.kinds.now
