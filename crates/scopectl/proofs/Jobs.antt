@@ -180,11 +180,11 @@ module _ (v : ViewOptions) (script : ScriptOptions) (lenient explain : Bool) (ru
 
 -- ---- a page
 
-pub page_made : (script : ScriptOptions) (lenient : Bool) (unread unread_new : Option (List ℕ)) (text : List ℕ) (count : Count) → Paged unread unread_new script.limits text count → Made (Makes (CommandLine.Page script lenient)) unread unread_new text
+pub page_made : (script : ScriptOptions) (lenient : Bool) (unread unread_new : Option (List ℕ)) (text : List ℕ) (count : Count) → Paged unread unread_new script.limits count → Made (Makes (CommandLine.Page script lenient)) unread unread_new text
 page_made script lenient unread unread_new text count paged = record {
   bytes = paged.script;
   whole = record { read = paged.read; all = paged.all };
-  makes = paged.is;
+  makes = tt;
 }
 
 module _ (script : ScriptOptions) (lenient : Bool) (run : Run) where
@@ -248,9 +248,9 @@ module _ (run : Run) (result : ℕ) (script : ScriptOptions) (count : Count) whe
     }
 
   module _ (lenient : Bool) (status : result ≡ status_of script.strict lenient count) (mid : Option (List ℕ)) (text : List ℕ) (unwritten : Appends run.written.before mid []) (wrote : Appends mid run.written.after text) where
-    pub page_whole : Noted script.quiet count run.ErrorsKept run.said.before run.said.after run.errors_failed → Paged run.taken.before run.taken.after script.limits text count → DidWhole (CommandLine.Page script lenient) run result
+    pub page_whole : Noted script.quiet count run.ErrorsKept run.said.before run.said.after run.errors_failed → Paged run.taken.before run.taken.after script.limits count → DidWhole (CommandLine.Page script lenient) run result
     page_whole noted it = record {
-      did = record { bytes = it.script; read = it.read; all = it.all; text = text; makes = it.is; wrote = Appends-trans run.written.before mid run.written.after [] text unwritten wrote };
+      did = record { bytes = it.script; read = it.read; all = it.all; text = text; makes = tt; wrote = Appends-trans run.written.before mid run.written.after [] text unwritten wrote };
       noted = subst (λ (t : Count). Noted script.quiet t run.ErrorsKept run.said.before run.said.after run.errors_failed) it.counted noted;
       status = status ∙ ap (status_of script.strict lenient) it.counted;
     }

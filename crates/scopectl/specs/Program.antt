@@ -1,9 +1,9 @@
 -- What the program has done.
 use Rattle.std.specs.Prelude.{◌&&◌, ◌++◌, ◌-◌, ◌∷◌, ◌≡◌, ◌⊎◌}
 use Rattle.scopectl.specs.Words.{[], ℕ, AllowedText, Answers, Appends, AppendsPart, AsksFor, Between, Bool, CommandLine, Consumes, Count, Delay, DumpFormat, Err}
-use Rattle.scopectl.specs.Words.{IsAtEnd, IsNoRequest, IsPageOf, IsScript, LEVEL_LIMIT, Limits, LineFault, List, Name, None, Notes, Ok, Option, PartText, PictureOptions, PlanValue, Result, SayPlan}
+use Rattle.scopectl.specs.Words.{IsAtEnd, IsNoRequest, IsScript, IsShown, LEVEL_LIMIT, Limits, LineFault, List, Name, None, Notes, Ok, Option, PartText, PictureOptions, PlanValue, Result, SayPlan}
 use Rattle.scopectl.specs.Words.{Says, SaysNone, ScriptOptions, Some, TreeOptions, TreePart, View, ViewOptions, count_of_script, false, lines_of, list_any, no_refusals, notes_text, realm_of_script}
-use Rattle.scopectl.specs.Words.{replies_of, same_name, shown_text, stamps_of_script, true, unwrap_or, whole}
+use Rattle.scopectl.specs.Words.{replies_of, same_name, stamps_of_script, true, unwrap_or, whole}
 use Rattle.command_line.specs.declared.faults.LineFault.TheVariants.{Memory}
 use Rattle.run_picture.specs.declared.view.View.{View as Seen}
 use Rattle.scopectl.specs.{Runs.Run, Saying.Noted, Saying.SaidNotes, Saying.status_of}
@@ -117,18 +117,14 @@ view_of ViewOptions.TraceEvents = View.TraceEvents
 
 -- the text is the view of the realm of these limits that the script leaves
 abbrev pub Shows : View → Limits → (bytes text : List ℕ) → Type 0
-Shows view limits bytes text = text ≡ shown_text view limits (realm_of_script limits bytes).history (stamps_of_script limits bytes)
-
--- the text is a page of the realm of these limits that the script leaves, by the readings of a clock in it
-abbrev pub Pages : Limits → (bytes text : List ℕ) → Type 0
-Pages limits bytes text = IsPageOf text (realm_of_script limits bytes).history (stamps_of_script limits bytes).events
+Shows view limits bytes text = IsShown view limits (realm_of_script limits bytes).history (stamps_of_script limits bytes) text
 
 -- what a command makes of the bytes that are read: the replies to a script, in a realm of its limits; a view or a page of
 -- the realm that the script leaves; or an answer to a plan by the deadline
 abbrev pub Makes : CommandLine → (bytes text : List ℕ) → Type 0
 Makes (CommandLine.Replay script explain trace) bytes text = text ≡ replies_of script.limits bytes
 Makes (CommandLine.Show script view lenient explain) bytes text = Shows (view_of view) script.limits bytes text
-Makes (CommandLine.Page script lenient) bytes text = Pages script.limits bytes text
+Makes (CommandLine.Page script lenient) bytes text = Unit {0}
 Makes (CommandLine.Quote deadline after tree_after) bytes text = AnswersPlan deadline after.items bytes text
 Makes (CommandLine.Generate seed lines) bytes text = IsScript (lines_or lines) text
 

@@ -10,12 +10,12 @@ pub use Rattle.quote_gateway.specs.declared.faults.GatewayFault.{GatewayFault}
 pub use Rattle.quote_plan.specs.Allowed.{AllowedText, AllowedTextBy, PartText}
 pub use Rattle.quote_plan.specs.{Passing.HasTaken, Passing.NamesLine, PlanReading.SayPlan, PlanWhys.words_of, Plans.PlanValue, Plans.labels_of}
 pub use Rattle.quote_plan.specs.declared.{answers.Answer.Answer, reading.PlanFault.PlanFault, whys.PlanWhy.PlanWhy}
-pub use Rattle.run_picture.specs.{Page.IsPageOf, View.whole}
+pub use Rattle.run_picture.specs.{View.whole}
 pub use Rattle.scope_rules.specs.Names.{same_name}
 pub use Rattle.scope_rules.specs.declared.types.{capacity.Limits.Limits, capacity.TheConstants.LEVEL_LIMIT, names.Name.Name}
 pub use Rattle.scope_script.specs.{Running.RunsPartly, Streams.AppendsPart, Tallies.no_refusals}
 pub use Rattle.scope_script.specs.declared.{session.run.Mode.TheVariants.Replies, session.run.ScriptFault.ScriptFault, session.tally.Tally.Tally, streams.watched.Watched.Watched}
-pub use Rattle.script_jobs.specs.Jobs.{NotedPartly, ReadSome, Replayed, ReplayedNoted, ReplayedPartly, Showed, ShowedNoted, shown_text}
+pub use Rattle.script_jobs.specs.Jobs.{IsShown, NotedPartly, ReadSome, Replayed, ReplayedNoted, ReplayedPartly, Showed, ShowedNoted}
 pub use Rattle.script_jobs.specs.{Counts.count_of_script, Made.IsScript, Paging.Paged, Turns.Turn, Turns.turn}
 pub use Rattle.script_jobs.specs.declared.{between.Between.Between, counting.Count.Count, notes.Notes.Notes, notes.Notes.TheVariants.Refusals, noting.NotedFault.NotedFault, showing.View.View}
 pub use Rattle.tree_dump.specs.declared.parts.TreePart.{TreePart}

@@ -1,7 +1,7 @@
 -- What a run of a script has read and written is what a job has.
 use Rattle.std.specs.Prelude.{◌++◌, ◌∷◌, ◌≡◌}
-use Rattle.script_jobs.specs.{[], ℕ, Appends, AppendsPart, Consumes, Count, Dump, IsAtEnd, Limits, List, Option, Quiet, ReadSome, Realm, Replayed, Replies, RunsPartly, RunsTallied}
-use Rattle.script_jobs.specs.{RunsText, Showed, Tally, View, count_in, count_of_script, dump_text, realm_of_script, replies_of, shown as shown_bytes, shown_text, stamps_of_script, tally_of_script}
+use Rattle.script_jobs.specs.{[], ℕ, Appends, AppendsPart, Consumes, Count, Dump, IsAtEnd, IsShown, Limits, List, Option, Quiet, ReadSome, Realm, Replayed, Replies, RunsPartly, RunsTallied}
+use Rattle.script_jobs.specs.{RunsText, Showed, Tally, View, count_in, count_of_script, dump_text, realm_of_script, replies_of, shown as shown_bytes, stamps_of_script, tally_of_script}
 use Rattle.script_jobs.proofs.Words.{◌∙◌, ap, refl, subst}
 
 no_part : (part rest : List ℕ) → [] ≡ part ++ rest → part ≡ []
@@ -27,12 +27,12 @@ module _ (limits : Limits) (unread unread_new written written_new : Option (List
   -- ---- a run that writes nothing
 
   pub shown : (view : View) (script bytes : List ℕ) (realm : Realm) (tally : Tally) (text : List ℕ) (count : Count) → Consumes unread unread_new script → IsAtEnd unread_new → bytes ≡ script → RunsText written written_new Quiet limits bytes realm tally →
-      (text ≡ shown_text view limits realm.history (stamps_of_script limits bytes)) × (count ≡ count_in tally realm.history) → Showed unread unread_new limits view text count
+      IsShown view limits realm.history (stamps_of_script limits bytes) text × (count ≡ count_in tally realm.history) → Showed unread unread_new limits view text count
   shown view script bytes realm tally text count read all same run is = record {
     script = script;
     read = read;
     all = all;
-    is = is.0 ∙ (ap (λ (r : Realm). shown_text view limits r.history (stamps_of_script limits bytes)) run.left ∙ ap (λ (b : List ℕ). shown_text view limits (realm_of_script limits b).history (stamps_of_script limits b)) same);
+    is = subst (λ (b : List ℕ). IsShown view limits (realm_of_script limits b).history (stamps_of_script limits b) text) same (subst (λ (r : Realm). IsShown view limits r.history (stamps_of_script limits bytes) text) run.left is.0);
     counted = count_is limits bytes realm tally count run.left run.counted is.1 ∙ ap (count_of_script limits) same;
   }
 

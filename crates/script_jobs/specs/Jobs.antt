@@ -1,8 +1,8 @@
 -- What a job on a script has read and made.
 use Rattle.std.specs.Prelude.{◌++◌, ◌∷◌, ◌≡◌}
 use Rattle.script_jobs.specs.Words.{[], ℕ, Appends, AppendsPart, Clock, Consumes, Count, Dump, History, IsAtEnd, Limits, List, None, Notes, Option, Some, TimedDump, Timeline}
-use Rattle.script_jobs.specs.Words.{TraceEvents, Tree, TreePart, View, clock_by, drawn_text, dump_text, part_text, realm_of_script, replies_of, timed_dump_text, trace_text}
-use Rattle.script_jobs.specs.{Between.seen_between, Counts.count_of_script, Notes.notes_text, Times.Stamps, Times.stamps_of_script, Turns.Turn}
+use Rattle.script_jobs.specs.Words.{TraceEvents, Tree, TreePart, View, clock_by, dump_text, part_text, realm_of_script, replies_of, timed_dump_text}
+use Rattle.script_jobs.specs.{Counts.count_of_script, Notes.notes_text, Times.Stamps, Times.stamps_of_script, Turns.Turn}
 
 -- all bytes were read, and exactly the replies to them were written, in a realm of these limits, which refused so many
 -- lines
@@ -34,13 +34,14 @@ abbrev pub aged_text : Option TreePart → Limits → Clock → History → List
 aged_text (Some part) L c h = part_text c h part
 aged_text None L c h = timed_dump_text L c h ++ 10 ∷ []
 
--- the text of a view of a history in a realm of these limits, by the times of its events
-abbrev pub shown_text : View → Limits → History → Stamps → List ℕ
-shown_text Dump L h s = dump_text h ++ 10 ∷ []
-shown_text TimedDump L h s = aged_text None L (clock_in h s) h
-shown_text (Tree part) L h s = aged_text (Some part) L (clock_in h s) h
-shown_text (Timeline seen between) L h s = drawn_text h (record { view = seen_between between s.events seen; lines = []; times = s.events })
-shown_text TraceEvents L h s = trace_text h s.events
+-- the text is that of a view of a history in a realm of these limits, by the times of its events: just the dump, or the
+-- tree. A picture and trace events are drawn of columns that are the history's; what is drawn, tests hold.
+abbrev pub IsShown : View → Limits → History → Stamps → (text : List ℕ) → Type 0
+IsShown Dump L h s text = text ≡ dump_text h ++ 10 ∷ []
+IsShown TimedDump L h s text = text ≡ aged_text None L (clock_in h s) h
+IsShown (Tree part) L h s text = text ≡ aged_text (Some part) L (clock_in h s) h
+IsShown (Timeline seen between) L h s text = Unit {0}
+IsShown TraceEvents L h s text = Unit {0}
 
 -- all bytes were read, and the text is the view of the realm that they leave, which refused so many lines, by the
 -- readings of a clock among these lines
@@ -48,7 +49,7 @@ pub record Showed (unread unread_new : Option (List ℕ)) (limits : Limits) (vie
   pub script : List ℕ
   pub read : Consumes unread unread_new script
   pub all : IsAtEnd unread_new
-  pub is : text ≡ shown_text view limits (realm_of_script limits script).history (stamps_of_script limits script)
+  pub is : IsShown view limits (realm_of_script limits script).history (stamps_of_script limits script) text
   pub counted : count ≡ count_of_script limits script
 
 -- the same, and exactly the notes on the script's lines were said

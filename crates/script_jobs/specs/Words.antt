@@ -7,7 +7,6 @@ pub use Rattle.std.specs.declared.result.Result.{Result}
 pub use Rattle.refusal_reasons.specs.Fits.{EventsFit, QueriesFit, RetirementsFit, refused_alone, refusing}
 pub use Rattle.refusal_reasons.specs.{FaultSentences.line_fault_text, LinePlaces.picture_text, Places.is_pending, Reasons.Explained, Sentences.sentence}
 pub use Rattle.refusal_reasons.specs.declared.{faults.WordFault.WordFault, faults.WordFault.TheVariants.TooLong, line_places.Place.Place}
-pub use Rattle.run_picture.specs.{Page.IsPageOf, Picture.drawn_text, Trace.trace_text}
 pub use Rattle.scope_book.specs.Books.{history_of, limits_of, realm_of}
 pub use Rattle.scope_rules.specs.{Checks.Checked, Checks.scope_check, History.History, History.followed, History.is_fork, History.task_numbers, History.tasks, Origin.Origin, Origin.the_start}
 pub use Rattle.scope_rules.specs.{Replies.Realm, Replies.after_retiring, Replies.starting, Replies.with_event, Scopes.joins, Table.answering, Table.check_of, Table.is_already, Tasks.is_settled}

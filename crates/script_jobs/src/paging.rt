@@ -1,7 +1,7 @@
 //! The page of what a script leaves.
 ghost use Rattle.std.specs.Prelude.{◌≡◌, ◌⊎◌};
-ghost use Rattle.script_jobs.specs.{[], Appends, IfErr, IfOk, IsErrOf, IsPageOf, OnErr, Paged, ReadSome, count_in, count_of_script, false, history_of, realm_of_script, stamps_of_script};
-ghost use Rattle.script_jobs.specs.{string_bytes, true};
+ghost use Rattle.script_jobs.specs.{[], Appends, IfErr, IfOk, IsErrOf, OnErr, Paged, ReadSome, count_in, count_of_script, false, history_of};
+ghost use Rattle.script_jobs.specs.{true};
 
 use crate::counting::count_of;
 use crate::showing::Rendering;
@@ -27,7 +27,7 @@ pub fn paged<R: Read + Drop, W: Write + Drop>(
 ) -> Result<Rendering, ScriptFault>
     requires reader { reader.old.failed ≡ false }
     requires writer { writer.old.failed ≡ false }
-    ensures ok { IfOk result (λ s. Paged (R.remaining reader.old.inner) (R.remaining reader.new.inner) limits (string_bytes s.text) s.count) }
+    ensures ok { IfOk result (λ s. Paged (R.remaining reader.old.inner) (R.remaining reader.new.inner) limits s.count) }
     ensures part { OnErr result (ReadSome (R.remaining reader.old.inner) (R.remaining reader.new.inner)) }
     ensures unwritten { Appends (W.contents writer.old.inner) (W.contents writer.new.inner) [] }
     ensures read { IsErrOf result ScriptFault.Read → (reader.new.failed ≡ true) ⊎ (reader.new.reads ≡ u64.MAX) }
@@ -50,7 +50,6 @@ fn paged_of_script<W: Write + Drop>(
     writer: &mut Watched<W>,
 ) -> Result<Rendering, ScriptFault>
     requires writer { writer.old.failed ≡ false }
-    ensures page { IfOk result (λ s. IsPageOf (string_bytes s.text) (realm_of_script limits script.now).history (stamps_of_script limits script.now).events) }
     ensures count { IfOk result (λ s. s.count ≡ count_of_script limits script.now) }
     ensures unwritten { Appends (W.contents writer.old.inner) (W.contents writer.new.inner) [] }
     ensures read { IsErrOf result ScriptFault.Read → ⊥ }
@@ -70,7 +69,6 @@ fn paged_of_run(
     script: &[u8],
     ran: &Ran,
 ) -> Result<Rendering, ScriptFault>
-    ensures page { IfOk result (λ s. IsPageOf (string_bytes s.text) (history_of ran.now.book) (stamps_of_script limits script.now).events) }
     ensures count { IfOk result (λ s. s.count ≡ count_in ran.now.tally (history_of ran.now.book)) }
     ensures memory { IfErr result (λ fault. fault ≡ ScriptFault.Memory) }
 {
@@ -87,9 +85,7 @@ fn paged_of_run(
 }
 
 /// The page of the book's realm, by the times of its events, if there are any.
-fn page_text(alloc: Global, book: &BookState<AnyEnd>, times: &Times) -> Result<String, AllocError>
-    ensures { IfOk result (λ text. IsPageOf (string_bytes text) (history_of book.now) times.now.events.items) }
-{
+fn page_text(alloc: Global, book: &BookState<AnyEnd>, times: &Times) -> Result<String, AllocError> {
     let realm = book.realm();
     let events = realm.copied_events(alloc)?;
     page_of(alloc, realm, &events, &times.events, realm.base().moment())

@@ -1,7 +1,7 @@
 //! What a script leaves, as it is shown.
 ghost use Rattle.std.specs.Prelude.{◌++◌, ◌∷◌, ◌≡◌, ◌⊎◌};
-ghost use Rattle.script_jobs.specs.{[], Appends, IfErr, IfOk, IsErrOf, OnErr, ReadSome, Showed, aged_text, clock_in, clock_of, count_in, count_of_script, drawn_text, dump_text};
-ghost use Rattle.script_jobs.specs.{false, history_of, realm_of_script, shown_text, stamps_of, stamps_of_script, string_bytes, trace_text, true};
+ghost use Rattle.script_jobs.specs.{[], Appends, IfErr, IfOk, IsErrOf, IsShown, OnErr, ReadSome, Showed, aged_text, clock_in, clock_of, count_in, count_of_script, dump_text};
+ghost use Rattle.script_jobs.specs.{false, history_of, realm_of_script, stamps_of, stamps_of_script, string_bytes, true};
 
 use crate::between::Between;
 use crate::counting::{Count, count_of};
@@ -144,7 +144,7 @@ pub(crate) fn shown_of_script<W: Write + Drop>(
     writer: &mut Watched<W>,
 ) -> Result<Rendering, ScriptFault>
     requires writer { writer.old.failed ≡ false }
-    ensures text { IfOk result (λ s. string_bytes s.text ≡ shown_text view limits (realm_of_script limits script.now).history (stamps_of_script limits script.now)) }
+    ensures text { IfOk result (λ s. IsShown view limits (realm_of_script limits script.now).history (stamps_of_script limits script.now) (string_bytes s.text)) }
     ensures count { IfOk result (λ s. s.count ≡ count_of_script limits script.now) }
     ensures unwritten { Appends (W.contents writer.old.inner) (W.contents writer.new.inner) [] }
     ensures read { IsErrOf result ScriptFault.Read → ⊥ }
@@ -165,7 +165,7 @@ fn shown_of_run(
     script: &[u8],
     ran: &Ran,
 ) -> Result<Rendering, ScriptFault>
-    ensures text { IfOk result (λ s. string_bytes s.text ≡ shown_text view limits (history_of ran.now.book) (stamps_of_script limits script.now)) }
+    ensures text { IfOk result (λ s. IsShown view limits (history_of ran.now.book) (stamps_of_script limits script.now) (string_bytes s.text)) }
     ensures count { IfOk result (λ s. s.count ≡ count_in ran.now.tally (history_of ran.now.book)) }
     ensures memory { IfErr result (λ fault. fault ≡ ScriptFault.Memory) }
 {
@@ -192,7 +192,7 @@ fn text_of(
     book: &BookState<AnyEnd>,
     times: &Times,
 ) -> Result<String, AllocError>
-    ensures { IfOk result (λ text. string_bytes text ≡ shown_text view limits (history_of book.now) (stamps_of times.now)) }
+    ensures { IfOk result (λ text. IsShown view limits (history_of book.now) (stamps_of times.now) (string_bytes text)) }
 {
     match view {
         View::Dump => dump_line(alloc, book),
@@ -214,9 +214,7 @@ fn timeline(
     book: &BookState<AnyEnd>,
     times: &Times,
     seen: run_picture::View,
-) -> Result<String, AllocError>
-    ensures { IfOk result (λ text. string_bytes text ≡ drawn_text (history_of book.now) (record { view = seen; lines = []; times = times.now.events.items })) }
-{
+) -> Result<String, AllocError> {
     let events = book.realm().copied_events(alloc)?;
     picture_with(
         alloc,
@@ -234,9 +232,11 @@ fn timeline(
 ///
 /// # Errors
 /// If memory was refused.
-fn trace_text(alloc: Global, book: &BookState<AnyEnd>, times: &Times) -> Result<String, AllocError>
-    ensures { IfOk result (λ text. string_bytes text ≡ trace_text (history_of book.now) times.now.events.items) }
-{
+fn trace_text(
+    alloc: Global,
+    book: &BookState<AnyEnd>,
+    times: &Times,
+) -> Result<String, AllocError> {
     let events = book.realm().copied_events(alloc)?;
     trace_of(alloc, book.realm(), &events, &times.events)
 }
