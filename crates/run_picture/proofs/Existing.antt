@@ -12,7 +12,7 @@ some_right : {A : Type 0} (a b : Option A) → is_some b ≡ true → is_some (o
 some_right None b some = some
 some_right (Some x) b some = refl
 
-entry_there : (es : List Event) (n : ℕ) → n < length es → (e : Event) × (slice_get es n ≡ Some e)
+pub entry_there : {A : Type 0} (xs : List A) (n : ℕ) → n < length xs → (x : A) × (slice_get xs n ≡ Some x)
 entry_there [] n within = absurd (omega arith)
 entry_there (e ∷ es) zero within = (e, refl)
 entry_there (e ∷ es) (suc n) within = entry_there es n (omega arith)

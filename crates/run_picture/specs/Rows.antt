@@ -1,31 +1,20 @@
 -- The rows of a picture: a task, a scope, a closed scope with all that lies in it, or tasks of one scope that have ended.
-use Rattle.std.specs.Prelude.{if◌then◌else◌, ◌&&◌, ◌+◌, ◌-◌, ◌==◌, ◌||◌, ◌∷◌}
-use Rattle.run_picture.specs.Words.{[], ℕ, Alike, Below, Bool, Class, Fold, Folded, History, List, Node, None, Option, Placed, Rest, Row, Some, State, closed, false}
-use Rattle.run_picture.specs.Words.{forked_count, forking, is_settled, length, map, max, min, nat_le, nat_lt, not, opened_count, option_map_or, stage, state, true}
-
--- node n: first come the tasks since the base, then the scopes
-abbrev pub node_of : History → ℕ → Option Node
-node_of h n = if nat_lt n (forked_count h) then Some (Node.Task (h.base.tasks + 1 + n)) else (if nat_lt (n - forked_count h) (opened_count h) then Some (Node.Scope (h.base.scopes + 1 + (n - forked_count h))) else None)
+use Rattle.std.specs.Prelude.{if◌then◌else◌, ◌&&◌, ◌++◌, ◌+◌, ◌-◌, ◌<◌, ◌==◌, ◌||◌, ◌∷◌, ◌≡◌, ◌≤◌}
+use Rattle.run_picture.specs.Words.{[], ℕ, Alike, All, Below, Bool, Class, Columns, Fold, Folded, List, None, Option, Placed, Rest, Row, ScopeRow, Some, State, TaskRow}
+use Rattle.run_picture.specs.Words.{count_by, false, is_settled, is_some, length, min, nat_lt, not, option_map_or, slice_get, true}
 
 abbrev pub is_failed : State → Bool
 is_failed (State.Failed fault) = true
 is_failed _ = false
 
-abbrev pub has_failed : History → ℕ → Bool
-has_failed h k = option_map_or (λ f. is_failed (state h k)) (forking h k) false
-
--- task k has ended, or never starts
-abbrev pub has_ended : History → ℕ → Bool
-has_ended h k = option_map_or (λ f. is_settled (stage h k)) (forking h k) false
-
-abbrev pub class_by : History → Option Node → Class
-class_by h (Some (Node.Task k)) = Class.Task (has_failed h k) (has_ended h k)
-class_by h (Some (Node.Scope s)) = Class.Scope (closed h s)
-class_by h None = Class.Scope false
+abbrev pub class_by : Option TaskRow → Option ScopeRow → Class
+class_by (Some t) scope = Class.Task (is_failed t.state) (is_settled t.stage)
+class_by None (Some s) = Class.Scope (is_some s.closed)
+class_by None None = Class.Scope false
 
 -- what node n is for a fold: a task, failed or not, which has ended or not, or a scope, closed or not
-abbrev pub class_of : History → ℕ → Class
-class_of h n = class_by h (node_of h n)
+abbrev pub class_of : Columns → ℕ → Class
+class_of c n = class_by (slice_get c.tasks.items n) (slice_get c.scopes.items (n - length c.tasks.items))
 
 -- one node more; it counts no further than 2^32 - 1, which are more than there can be
 abbrev pub one_more : ℕ → ℕ
@@ -87,21 +76,23 @@ fits Rest r p c = nat_lt r.depth p.depth || ((r.depth == p.depth) && is_task c)
 abbrev pub taken_in : Row → Placed → Class → Option Row
 taken_in r p c = option_map_or (λ f. if fits f.fold r p c then Some (record { node = r.node; depth = r.depth; folded = Some (counted f c) }) else None) r.folded None
 
-abbrev pub or_begun : Bool → Row → Placed → Class → Option Row → List Row
-or_begun full r p c (Some taken) = taken ∷ []
-or_begun full r p c None = r ∷ begun full p c ∷ []
+-- the row stands for the nodes, which are of these classes: it is begun by the first, and the others do not lie higher. A row that
+-- is not folded has no others. A folded one counts the tasks among the others, those that failed, and those that have not
+-- ended. It is a closed scope with what lies below it; or begins with a task that has ended, and all in it has ended or is
+-- closed; or begins with a task, and all in it are tasks or lie lower.
+pub record IsFoldOf (of : ℕ → Class) (r : Row) (first : Placed) (inside : List Placed) : Type 0 where
+  pub node : r.node ≡ first.node
+  pub depth : r.depth ≡ first.depth
+  pub lower : All (λ p. first.depth ≤ p.depth) inside
+  pub alone : r.folded ≡ None → inside ≡ []
+  pub tasks : (f : Folded) → r.folded ≡ Some f → f.tasks ≡ count_by (λ p. is_task (of p.node)) inside
+  pub failures : (f : Folded) → r.folded ≡ Some f → f.failed ≡ count_by (λ p. is_failure (of p.node)) inside
+  pub unended : (f : Folded) → r.folded ≡ Some f → f.unended ≡ count_by (λ p. is_unended (of p.node)) inside
+  pub closed : (f : Folded) → r.folded ≡ Some f → f.fold ≡ Below → (of first.node ≡ Class.Scope true) × All (λ p. first.depth < p.depth) inside
+  pub ended : (f : Folded) (failed : Bool) → r.folded ≡ Some f → f.fold ≡ Alike failed → (of first.node ≡ Class.Task failed true) × All (λ p. is_done (of p.node) ≡ true) inside
+  pub rest : (f : Folded) → r.folded ≡ Some f → f.fold ≡ Rest → (is_task (of first.node) ≡ true) × All (λ p. (nat_lt first.depth p.depth || is_task (of p.node)) ≡ true) inside
 
--- the rows with one node more: in the last row, if that takes it in, or else behind it
-abbrev pub folded_in : Bool → List Row → Placed → Class → List Row
-folded_in full [] p c = begun full p c ∷ []
-folded_in full (r ∷ []) p c = or_begun full r p c (taken_in r p c)
-folded_in full (r ∷ q ∷ rows) p c = r ∷ folded_in full (q ∷ rows) p c
-
--- the same for node after node; from so many rows on there are many
-abbrev pub folded_from : History → ℕ → List Row → List Placed → List Row
-folded_from h many rows [] = rows
-folded_from h many rows (p ∷ ps) = folded_from h many (folded_in (nat_le many (length rows)) rows p (class_of h p.node)) ps
-
--- the rows of the nodes: each by itself, or folded, if they are more than so many
-abbrev pub rows_of : History → ℕ → List Placed → List Row
-rows_of h limit placed = if nat_lt limit (length placed) then folded_from h (max limit 1000) [] placed else map plain placed
+-- the rows stand for the nodes, one stretch of them after the other
+pub data StandFor (of : ℕ → Class) : List Row → List Placed → Type 0 where
+  nothing : StandFor of [] []
+  one_behind : {r : Row} {first : Placed} {inside before : List Placed} {rows : List Row} → StandFor of rows before → IsFoldOf of r first inside → StandFor of (rows ++ r ∷ []) (before ++ first ∷ inside)

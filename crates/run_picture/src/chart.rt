@@ -1,19 +1,12 @@
-//! What is kept of a run while it is drawn: where something happened first, and the rows.
-ghost use Rattle.std.specs.Prelude.{◌++◌, ◌<◌, ◌^◌, ◌≡◌};
-ghost use Rattle.run_picture.specs.{ℕ, AreShown, IfOk, IsChartOf, IsNestOf, None, OnOk, chosen_rows, focused, focused_view, get_or, length, node_count, one_with_all, placed_rows};
-ghost use Rattle.run_picture.specs.{sheet_of, shown_in};
+//! What is drawn of a run: its columns, the rows, and where something stands.
+ghost use Rattle.std.specs.Prelude.{◌<◌, ◌≡◌};
 
-use crate::arounds::{Nest, nest_of};
-use crate::closings::closings_of;
-use crate::forest::{Forest, Placed, append_rows, below, forest_of, nothings};
-use crate::nodes::{keys_of, node_count, scope_node};
+use crate::columns::{Columns, ScopeRow, TaskRow, columns_of};
+use crate::placed::{Placed, nothings, placed_of, scope_at};
 use crate::rows::{Row, rows_of};
-use crate::seen::seen_of;
-use crate::view::{View, column_of};
-use run_times::closed_at;
-use run_times::landmarks::{Firsts, Landmark, firsts_of};
+use crate::view::{View, natural_width, small_place, time_at};
 use scope_checks::Readings;
-use scope_rules::{Event, ScopeId};
+use scope_rules::{Event, ScopeId, Stage, TaskId};
 use std::alloc::{AllocError, Global};
 
 /// What is drawn: the events, with the line of the script of each and its time, if these are known.
@@ -31,120 +24,132 @@ pub struct Drawn<'a> {
 #[derive(Drop)]
 pub(crate) struct Chart<'a> {
     pub(crate) drawn: Drawn<'a>,
-    pub(crate) nest: Nest,
-    pub(crate) starts: Firsts,
-    pub(crate) ends: Firsts,
-    pub(crate) joins: Firsts,
-    pub(crate) closings: Firsts,
+    pub(crate) columns: Columns,
     pub(crate) rows: Vec<Row>,
     /// By node, its row, unless it lies in another.
-    pub(crate) shown: Vec<Option<u32>>,
+    shown: Vec<Option<u32>>,
     /// How many events there are.
-    pub(crate) columns: u32,
+    pub(crate) places: u32,
     /// How many rows there are.
     pub(crate) height: u32,
 }
 
-/// The nodes that are drawn, in the order of the tree. It is refused for memory alone; of 2^31 nodes and more it asks
-/// none, and is refused too.
-fn placed_of<R: Readings>(
-    alloc: Global,
-    readings: &R,
-    nest: &Nest,
-    scope: Option<ScopeId>,
-) -> Result<Vec<Placed>, AllocError>
-    requires { IsNestOf nest.now (R.history readings.now) }
-    ensures { IfOk result (λ placed. placed.items ≡ placed_rows (R.history readings.now) scope) }
-{
-    let keys = keys_of(alloc, readings, nest)?;
-    let forest = forest_of(alloc, &keys)?;
-    let count = node_count(readings) as u32;
-    let mut placed = Vec::new(alloc);
-    append_nodes(readings, &forest, &mut placed, count, scope)?;
-    Ok(placed)
+/// What a row is of.
+#[derive(Clone, Copy)]
+pub(crate) enum Subject {
+    Task(TaskId, TaskRow),
+    Scope(ScopeId, ScopeRow),
 }
 
-/// Appends the nodes that are drawn, of so many. It is refused for memory alone.
-fn append_nodes<R: Readings>(
-    readings: &R,
-    forest: &Forest,
-    placed: &mut Vec<Placed>,
-    count: u32,
-    scope: Option<ScopeId>,
-) -> Result<(), AllocError>
-    requires count { count ≡ node_count (R.history readings.now) }
-    requires few { count < 2 ^ 31 }
-    ensures { OnOk result (placed.new.items ≡ placed.old.items ++ chosen_rows (R.history readings.now) forest.now.child.items forest.now.sibling.items scope) }
-{
-    match scope {
-        None => append_rows(forest, placed, count, 0, below(forest, count)),
-        Some(scope) => append_one(forest, placed, count, scope_node(readings, scope)),
+/// What the node is: first come the tasks, then the scopes.
+pub(crate) fn subject_of(columns: &Columns, node: u32) -> Option<Subject> {
+    let index = node as usize;
+    if let Some(row) = columns.tasks.get(index) {
+        let task = columns.tasks_before.saturating_add(node).saturating_add(1);
+        return Some(Subject::Task(task, *row));
     }
+    let index = index.saturating_sub(columns.tasks.len());
+    let row = columns.scopes.get(index)?;
+    Some(Subject::Scope(scope_number(columns, index), *row))
 }
 
-/// Appends the node with what lies below it, if it is one of so many. It is refused for memory alone.
-fn append_one(
-    forest: &Forest,
-    placed: &mut Vec<Placed>,
-    count: u32,
-    node: u64,
-) -> Result<(), AllocError>
-    requires { count < 2 ^ 31 }
-    ensures { OnOk result (placed.new.items ≡ placed.old.items ++ one_with_all forest.now.child.items forest.now.sibling.items count node) }
-{
-    if node >= u64::from(count) {
-        return Ok(());
-    }
-    let node = node as u32;
-    placed.push(Placed { node, depth: 0 })?;
-    append_rows(forest, placed, count, 1, below(forest, node))
+/// The number of the scope in the row with this index.
+pub(crate) fn scope_number(columns: &Columns, index: usize) -> ScopeId {
+    let before = columns.scopes_before.saturating_add(1);
+    before.saturating_add(small_place(index))
 }
 
-/// The rows by node. It is refused for memory alone.
-fn shown_of(alloc: Global, rows: &[Row], count: u32) -> Result<Vec<Option<u32>>, AllocError>
-    requires { length rows.now < 2 ^ 32 }
-    ensures { IfOk result (λ shown. AreShown shown.items rows.now count (length rows.now)) }
-{
-    let mut shown = nothings(alloc, count as usize)?;
-    for (index, row) in rows.iter().enumerate() {
-        show(&mut shown, *row, index as u32);
-    }
-    Ok(shown)
+/// Whether the task was forked under a cancel, so that it never starts.
+pub(crate) fn never_starts(row: &TaskRow) -> bool {
+    matches!(row.stage, Stage::Never) && row.ended.is_none()
 }
 
-/// Notes the row for its node, if it is the first one and is not folded.
-fn show(shown: &mut Vec<Option<u32>>, row: Row, index: u32)
-    ensures long { length shown.new.items ≡ length shown.old.items }
-    ensures each { (k : ℕ) → k < length shown.old.items → get_or shown.new.items k None ≡ shown_in row index k (get_or shown.old.items k None) }
-{
-    let node = row.node as usize;
-    if row.folded.is_none() && node < shown.len() && shown[node].is_none() {
-        shown[node] = Some(index);
-    }
-}
+// ---- rows
 
 /// What is in view: if one scope alone is drawn, what lasts or happens between its opening and its close.
-fn focused_view<R: Readings>(readings: &R, nest: &Nest, view: View) -> View
-    requires { IsNestOf nest.now (R.history readings.now) }
-    ensures { result ≡ focused_view (R.history readings.now) view }
-{
+fn focused_view(columns: &Columns, view: View) -> View {
     let Some(scope) = view.scope else {
         return view;
     };
-    let Some(opened) = readings.opening(scope) else {
+    let Some(row) = scope_at(columns, scope) else {
         return view;
     };
-    let last = match closed_at(readings, &nest.closes, scope) {
-        Some(place) => column_of(place),
+    let last = match row.closed {
+        Some(place) => small_place(place),
         None => u32::MAX,
     };
     View {
         width: view.width,
         rows: view.rows,
-        from: view.from.max(column_of(opened.place)),
+        from: view.from.max(small_place(row.opened.place)),
         to: view.to.min(last),
         scope: view.scope,
     }
+}
+
+/// Whether the node is in view between its beginning and its end.
+fn is_seen(columns: &Columns, view: View, node: u32) -> bool {
+    match subject_of(columns, node) {
+        Some(Subject::Task(_, row)) if never_starts(&row) => {
+            view.meets(row.forked.place, Some(row.forked.place))
+        },
+        Some(Subject::Task(_, row)) => view.meets(row.forked.place, row.ended),
+        Some(Subject::Scope(_, row)) => view.meets(row.opened.place, row.closed),
+        None => false,
+    }
+}
+
+/// Whether the node is the scope with this number.
+fn is_scope(columns: &Columns, node: u32, scope: ScopeId) -> bool {
+    match subject_of(columns, node) {
+        Some(Subject::Scope(number, _)) => number == scope,
+        _ => false,
+    }
+}
+
+/// The nodes that are in view: all, or those of one scope. It is refused for memory alone.
+fn seen_of(
+    alloc: Global,
+    columns: &Columns,
+    placed: &[Placed],
+    view: View,
+) -> Result<Vec<Placed>, AllocError> {
+    let mut seen = Vec::new(alloc);
+    // How deep the scope lies, once it was found.
+    let mut top = None;
+    for one in placed {
+        match (view.scope, top) {
+            (Some(scope), None) if is_scope(columns, one.node, scope) => top = Some(one.depth),
+            (Some(_), None) => continue,
+            (Some(_), Some(depth)) if one.depth <= depth => break,
+            _ => {},
+        }
+        if is_seen(columns, view, one.node) {
+            let depth = one.depth.saturating_sub(top.unwrap_or(0));
+            seen.push(Placed {
+                node: one.node,
+                depth,
+            })?;
+        }
+    }
+    Ok(seen)
+}
+
+/// The rows by node. It is refused for memory alone.
+fn shown_of(
+    alloc: Global,
+    rows: &[Row],
+    columns: &Columns,
+) -> Result<Vec<Option<u32>>, AllocError> {
+    let count = columns.tasks.len().saturating_add(columns.scopes.len());
+    let mut shown = nothings(alloc, count)?;
+    for (index, row) in rows.iter().enumerate() {
+        let node = row.node as usize;
+        if row.folded.is_none() && node < shown.len() {
+            shown[node] = Some(small_place(index));
+        }
+    }
+    Ok(shown)
 }
 
 /// The chart of what was read. It is refused for memory alone; of 2^31 events or nodes, which no realm has, it asks
@@ -155,47 +160,117 @@ pub(crate) fn chart_of<'a, R: Readings>(
     drawn: Drawn<'a>,
 ) -> Result<Chart<'a>, AllocError>
     requires { drawn.events.now ≡ (R.history readings.now).events }
-    ensures chart { IfOk result (λ chart. IsChartOf chart chart.drawn (R.history readings.now)) }
-    ensures sheet { IfOk result (λ chart. sheet_of chart.drawn ≡ focused (R.history readings.now) (sheet_of drawn.entry)) }
 {
-    let Ok(columns) = u32::try_from(drawn.events.len()) else {
+    let Ok(places) = u32::try_from(drawn.events.len()) else {
         return Err(AllocError);
     };
-    let events = drawn.events;
-    let tasks_before = readings.retired_tasks();
-    let tasks = readings.tasks() - tasks_before;
-    let scopes_before = readings.retired_scopes();
-    let scopes = readings.scopes() - scopes_before;
-    let nest = nest_of(alloc, readings, events)?;
+    let columns = columns_of(alloc, readings, drawn.events)?;
+    let view = focused_view(&columns, drawn.view);
+    let placed = placed_of(alloc, &columns)?;
+    let seen = seen_of(alloc, &columns, &placed, view)?;
+    if seen.len() >= 1 << 31 {
+        return Err(AllocError);
+    }
+    let rows = rows_of(alloc, &columns, &seen, view.rows)?;
+    let shown = shown_of(alloc, &rows, &columns)?;
+    let height = small_place(rows.len());
     let drawn = Drawn {
-        events,
+        events: drawn.events,
         lines: drawn.lines,
         times: drawn.times,
-        view: focused_view(readings, &nest, drawn.view),
+        view,
     };
-    let ends = firsts_of(alloc, events, Landmark::Ended, tasks_before, tasks)?;
-    let begins = firsts_of(alloc, events, Landmark::Began, scopes_before, scopes)?;
-    let closings = closings_of(alloc, readings, &nest, &begins)?;
-    let placed = placed_of(alloc, readings, &nest, drawn.view.scope)?;
-    let seen = seen_of(alloc, readings, &nest, &ends, &placed, drawn.view)?;
-    let rows = rows_of(alloc, readings, &seen, drawn.view.rows)?;
-    let Ok(height) = u32::try_from(rows.len()) else {
-        return Err(AllocError);
-    };
-    let Ok(nodes) = u32::try_from(node_count(readings)) else {
-        return Err(AllocError);
-    };
-    let shown = shown_of(alloc, &rows, nodes)?;
     Ok(Chart {
         drawn,
-        nest,
-        starts: firsts_of(alloc, events, Landmark::Started, tasks_before, tasks)?,
-        ends,
-        joins: firsts_of(alloc, events, Landmark::Joined, scopes_before, scopes)?,
-        closings,
+        columns,
         rows,
         shown,
-        columns,
+        places,
         height,
     })
+}
+
+// ---- sites
+
+/// The row's middle, from above.
+pub(crate) fn row_y(row: u32) -> u64
+    ensures { result < 100000000000 }
+{
+    84 + 22 * u64::from(row)
+}
+
+/// The row of the scope, unless it is not drawn or lies in another.
+pub(crate) fn scope_row(chart: &Chart<'_>, scope: ScopeId) -> Option<u32> {
+    scope_at(&chart.columns, scope)?;
+    let index = scope - chart.columns.scopes_before - 1;
+    let node = chart.columns.tasks.len().saturating_add(index as usize);
+    *chart.shown.get(node)?
+}
+
+/// The time at which the view begins.
+pub(crate) fn first_time(chart: &Chart<'_>) -> u64
+    ensures { result < 4294967296 }
+{
+    let view = chart.drawn.view;
+    time_at(chart.drawn.times, view.from.min(view.to.min(chart.places)))
+}
+
+/// How long the view lasts.
+pub(crate) fn span_time(chart: &Chart<'_>) -> u64
+    ensures { result < 4294967296 }
+{
+    let last = time_at(chart.drawn.times, chart.drawn.view.to.min(chart.places));
+    last.saturating_sub(first_time(chart))
+}
+
+/// How far from the left the time stands.
+pub(crate) fn x_by(chart: &Chart<'_>, time: u64) -> u64 {
+    let span = span_time(chart);
+    let far = time.saturating_sub(first_time(chart)).min(span);
+    let width = natural_width(chart.drawn.view.width, chart.height).saturating_sub(280);
+    256u64.saturating_add(far.saturating_mul(width) / span.max(1))
+}
+
+/// How far from the left the event at the place stands.
+pub(crate) fn x_of(chart: &Chart<'_>, place: usize) -> u64 {
+    let last = chart.drawn.view.to.min(chart.places);
+    let first = chart.drawn.view.from.min(last);
+    let seen = small_place(place).max(first).min(last);
+    x_by(chart, time_at(chart.drawn.times, seen))
+}
+
+/// How far from the left it ends, if it ends at a place, or else the right edge.
+pub(crate) fn end_x(chart: &Chart<'_>, place: Option<usize>) -> u64 {
+    match place {
+        Some(place) => x_of(chart, place),
+        None => x_of(chart, chart.places as usize),
+    }
+}
+
+/// The time of the event at the place, or the number of its line, or its own.
+pub(crate) fn number_of(drawn: &Drawn<'_>, place: usize) -> u64 {
+    let column = small_place(place);
+    if !drawn.times.is_empty() {
+        return time_at(drawn.times, column);
+    }
+    match drawn.lines.get(column as usize) {
+        Some(line) => u64::from(*line),
+        None => u64::from(column) + 1,
+    }
+}
+
+/// What is counted: milliseconds if there are times, or else lines if these are known, or else events.
+pub(crate) fn unit_word(drawn: &Drawn<'_>) -> &'static str {
+    if !drawn.times.is_empty() {
+        ""
+    } else if !drawn.lines.is_empty() {
+        "line "
+    } else {
+        "event "
+    }
+}
+
+/// The unit behind a number.
+pub(crate) fn unit_end(drawn: &Drawn<'_>) -> &'static str {
+    if drawn.times.is_empty() { "" } else { " ms" }
 }

@@ -1,13 +1,10 @@
 //! How a page writes numbers: in digits of 32, the lowest first, in characters that mean nothing to HTML.
-ghost use Rattle.std.specs.Prelude.{◌++◌, ◌≡◌};
-ghost use Rattle.run_picture.specs.{OnOk, far, number_text, numbers_text, small_place, step, string_bytes};
 
+use crate::view::small_place;
 use std::alloc::AllocError;
 
 /// Appends the number. It is refused for memory alone.
-pub(crate) fn append_number(text: &mut String, number: u64) -> Result<(), AllocError>
-    ensures { OnOk result (string_bytes text.new ≡ string_bytes text.old ++ number_text number) }
-{
+pub(crate) fn append_number(text: &mut String, number: u64) -> Result<(), AllocError> {
     let mut rest = number;
     while rest >= 32 {
         let digit = (95 + rest % 32) as u8;
@@ -15,25 +12,19 @@ pub(crate) fn append_number(text: &mut String, number: u64) -> Result<(), AllocE
         rest /= 32;
     }
     let digit = (63 + rest) as u8;
-    text.push(digit as char)?;
-    Ok(())
+    text.push(digit as char)
 }
 
 /// Appends the numbers. It is refused for memory alone.
-#[tactic(auto, using(std::proofs::lemmas::Grind::common_steps, crate::proofs::Written::each_none, crate::proofs::Written::each_more))]
-pub(crate) fn append_numbers(text: &mut String, numbers: &[u64]) -> Result<(), AllocError>
-    ensures { OnOk result (string_bytes text.new ≡ string_bytes text.old ++ numbers_text numbers.now) }
-{
-    for index in 0..numbers.len() {
-        append_number(text, numbers[index])?;
+pub(crate) fn append_numbers(text: &mut String, numbers: &[u64]) -> Result<(), AllocError> {
+    for number in numbers {
+        append_number(text, *number)?;
     }
     Ok(())
 }
 
 /// The way from the one number to the other: even upwards, odd downwards.
-pub(crate) fn step(from: u32, to: u32) -> u64
-    ensures { result ≡ step from to }
-{
+pub(crate) fn step(from: u32, to: u32) -> u64 {
     if to < from {
         2 * u64::from(from - to) - 1
     } else {
@@ -41,17 +32,8 @@ pub(crate) fn step(from: u32, to: u32) -> u64
     }
 }
 
-/// The place as a number of 32 bits.
-pub(crate) fn small_place(place: usize) -> u32
-    ensures { result ≡ small_place place }
-{
-    place.min(u32::MAX as usize) as u32
-}
-
 /// How far the one place is behind the other, from 1; 0 stands for none.
-pub(crate) fn far(from: usize, to: Option<usize>) -> u64
-    ensures { result ≡ far from to }
-{
+pub(crate) fn far(from: usize, to: Option<usize>) -> u64 {
     match to {
         Some(place) => 1 + u64::from(small_place(place.saturating_sub(from))),
         None => 0,

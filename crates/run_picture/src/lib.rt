@@ -31,55 +31,40 @@
 //! that XML keeps for itself: what is written is XML, without more ado. The colours are distinguished by those who see
 //! some of them alike, in light and in the dark. No number is larger than viewers take.
 //!
-//! `trace_of` writes the run as Chrome trace events in place of a picture.
+//! `trace_of` writes the run as Chrome trace events in place of a picture, and `page_of` as a page.
+//!
+//! All three are drawn from the same data, and the data carries the contracts: `columns_of` says where what happened to each
+//! task and each scope, `placed_of` and `rows_of` in which rows they stand, and `held_off` which shields held.
 #![tactic(auto)]
 
 mod arounds;
 mod axis;
-mod cancels;
-mod captions;
 mod chart;
 mod closings;
 mod columns;
 mod digits;
-mod events;
-mod forest;
-mod frame;
 mod lanes;
-pub mod laws;
 mod marks;
-mod nodes;
 mod page;
-pub mod page_drawing;
-pub mod page_head;
-pub mod page_model;
+mod page_drawing;
+mod page_head;
+mod page_model;
 mod page_rows;
 mod picture;
 mod pieces;
+mod placed;
 mod rows;
-mod seen;
 mod shields;
-mod sites;
-mod slices;
-mod spots;
-mod strokes;
 mod trace;
 mod view;
 mod words;
 
-pub use axis::AxisMark;
-pub use captions::{Fate, Label, Measure, ShownFork, ShownScope, Span, Subject, Title};
 pub use chart::Drawn;
 pub use columns::{Columns, ScopeRow, TaskRow, columns_of};
-pub use forest::Placed;
-pub use frame::{Frame, ShownFoot, ShownHead};
-pub use marks::{Mark, ShownMark};
 pub use page::page_of;
 pub use picture::{picture_of, picture_with};
-pub use rows::{Class, Fold, Folded, Node, Row};
-pub use slices::{Arrow, Instant, Point, ScopeSlice, Stretch, TaskSlice, Track, Wait, WaitSlice};
-pub use spots::Spot;
-pub use strokes::{Bar, Reach, Shade, Tick};
+pub use placed::{Placed, placed_of};
+pub use rows::{Class, Fold, Folded, Row, rows_of};
+pub use shields::held_off;
 pub use trace::trace_of;
 pub use view::View;
-pub use words::Words;

@@ -1,215 +1,227 @@
-//! The marks of a picture.
-ghost use Rattle.std.specs.Prelude.{◌≡◌};
-ghost use Rattle.run_picture.specs.{Some, at_text, cancel_word, cause_text, ended_text, held_text, mark_text, mark_word, moved_text, note_text, note_title};
+//! The marks of a picture: what happened at an event.
 
-use crate::captions::{Measure, unit_end, unit_word};
-use crate::spots::Spot;
-use scope_rules::{Cause, ScopeId, State, TaskId};
-use std::fmt;
+use crate::chart::{Chart, number_of, row_y, scope_row, unit_end, unit_word, x_of};
+use crate::columns::ScopeRow;
+use crate::lanes::{append_cause, append_state};
+use crate::placed::scope_at;
+use crate::shields::held_off;
+use scope_rules::types::answers::CauseKind;
+use scope_rules::types::joiners::{Policy, Rule};
+use scope_rules::{Cause, Event, ScopeId, State, TaskId};
+use std::alloc::AllocError;
 
 /// What happened at an event.
 #[derive(Clone, Copy)]
-pub enum Mark {
+pub(crate) enum Mark {
     /// The task ended, and so much can be read of it.
-    Ended {
-        task: TaskId,
-        state: State,
-    },
+    Ended(TaskId, State),
     /// The task gets no thread.
-    Never {
-        task: TaskId,
-    },
+    Never(TaskId),
     /// The scope was joined.
-    Joined {
-        scope: ScopeId,
-    },
+    Joined(ScopeId),
     /// The scope's close began.
-    Closing {
-        scope: ScopeId,
-    },
+    Closing(ScopeId),
     /// The scope was closed.
-    Closed {
-        scope: ScopeId,
-    },
+    Closed(ScopeId),
     /// The scope's deadline was set anew, or taken away.
-    Moved {
-        scope: ScopeId,
-        deadline: Option<u64>,
-    },
-    /// The scope became cancelled.
-    Cancelled {
-        scope: ScopeId,
-        cause: Cause,
-        /// Whether it is an accident, and no normal end.
-        accident: bool,
-    },
+    Moved(ScopeId, Option<u64>),
+    /// The scope became cancelled, by an accident or not.
+    Cancelled(ScopeId, Cause, bool),
     /// The scope's shield held off the cancel of another scope around it.
-    Held {
-        scope: ScopeId,
-        source: ScopeId,
-    },
+    Held(ScopeId, ScopeId),
 }
 
-impl Mark {
-    /// The mark's name among the picture's shapes.
-    fn word(self) -> &'static str
-        ensures { result.now ≡ mark_word self }
-    {
-        match self {
-            Mark::Ended { state, .. } => state.word(),
-            Mark::Never { .. } => "never",
-            Mark::Joined { .. } => "joined",
-            Mark::Closing { .. } => "began",
-            Mark::Closed { .. } => "closed",
-            Mark::Moved { .. } => "moved",
-            Mark::Cancelled {
-                scope,
-                cause,
-                accident,
-            } => cancel_word(scope, cause, accident),
-            Mark::Held { .. } => "shield",
-        }
+/// The mark's name among the picture's shapes.
+fn shape_of(mark: Mark) -> &'static str {
+    match mark {
+        Mark::Ended(_, state) => state.word(),
+        Mark::Never(_) => "never",
+        Mark::Joined(_) => "joined",
+        Mark::Closing(_) => "began",
+        Mark::Closed(_) => "closed",
+        Mark::Moved(..) => "moved",
+        Mark::Cancelled(_, _, false) => "settled",
+        Mark::Cancelled(scope, cause, true) if cause.scope == scope => "cancel",
+        Mark::Cancelled(..) => "reached",
+        Mark::Held(..) => "shield",
     }
 }
 
-/// The mark of a cancel.
-fn cancel_word(scope: ScopeId, cause: Cause, accident: bool) -> &'static str
-    ensures { result.now ≡ cancel_word scope cause accident }
-{
-    if !accident {
-        "settled"
-    } else if cause.scope == scope {
-        "cancel"
-    } else {
-        "reached"
+/// Appends what the mark says.
+fn append_note(text: &mut String, mark: Mark) -> Result<(), AllocError> {
+    match mark {
+        Mark::Ended(task, state) => {
+            write!(text, "task {task}")?;
+            append_state(text, state)
+        },
+        Mark::Never(task) => write!(text, "task {task} never starts"),
+        Mark::Joined(scope) => write!(text, "scope {scope} is joined"),
+        Mark::Closing(scope) => write!(text, "scope {scope} begins to close"),
+        Mark::Closed(scope) => write!(text, "scope {scope} is closed"),
+        Mark::Moved(scope, None) => write!(text, "scope {scope} has no deadline"),
+        Mark::Moved(scope, Some(moment)) => {
+            write!(text, "scope {scope} has the deadline {moment} ms")
+        },
+        Mark::Cancelled(scope, cause, _) => {
+            write!(text, "scope {scope}")?;
+            append_cause(text, cause)
+        },
+        Mark::Held(scope, source) => write!(text, "scope {scope} shielded from scope {source}"),
     }
 }
 
-/// How a task ended, by what can be read of it.
-#[derive(Clone, Copy)]
-pub(crate) struct ShownState(pub(crate) State);
+/// Appends the mark at the place, so far from above, if the place is in view. It is refused for memory alone.
+pub(crate) fn append_mark(
+    text: &mut String,
+    chart: &Chart<'_>,
+    place: usize,
+    y: u64,
+    mark: Mark,
+) -> Result<(), AllocError> {
+    if !chart.drawn.view.shows(place) {
+        return Ok(());
+    }
+    let shape = shape_of(mark);
+    let x = x_of(chart, place);
+    let word = unit_word(&chart.drawn);
+    let number = number_of(&chart.drawn, place);
+    let unit = unit_end(&chart.drawn);
+    write!(
+        text,
+        "<use href='#{shape}' x='{x}' y='{y}'><title>{word}{number}{unit}: "
+    )?;
+    append_note(text, mark)?;
+    text.push_str("</title></use>\n")
+}
 
-impl fmt::Display for ShownState {
-    ghost output = { λ s. Some (ended_text s.0) };
+// ---- events
 
-    fn fmt<W: fmt::Write>(&self, f: &mut fmt::Formatter<W>) -> fmt::Result {
-        match self.0 {
-            State::Unavailable => write!(f, " ended, unavailable"),
-            State::Success(value) => write!(f, " succeeded with {value}"),
-            State::Failed(fault) => write!(f, " failed with {fault}"),
-        }
+/// The mark that the event leaves at a scope.
+fn mark_of(event: Event) -> Option<(ScopeId, Mark)> {
+    match event {
+        Event::Move { scope, deadline } => Some((scope, Mark::Moved(scope, deadline))),
+        Event::Join { scope, .. } => Some((scope, Mark::Joined(scope))),
+        Event::BeginClose { scope, .. } => Some((scope, Mark::Closing(scope))),
+        Event::EndClose { scope, .. } => Some((scope, Mark::Closed(scope))),
+        _ => None,
     }
 }
 
-/// The deadline that a scope has now.
-#[derive(Clone, Copy)]
-struct ShownMove(Option<u64>);
-
-impl fmt::Display for ShownMove {
-    ghost output = { λ m. Some (moved_text m.0) };
-
-    fn fmt<W: fmt::Write>(&self, f: &mut fmt::Formatter<W>) -> fmt::Result {
-        match self.0 {
-            None => write!(f, " has no deadline"),
-            Some(moment) => write!(f, " has the deadline {moment} ms"),
-        }
+/// Appends the mark of the event at the place, in the row of its scope, if it has one. It is refused for memory alone.
+pub(crate) fn append_event(
+    text: &mut String,
+    chart: &Chart<'_>,
+    place: usize,
+    event: Event,
+) -> Result<(), AllocError> {
+    let Some((scope, mark)) = mark_of(event) else {
+        return Ok(());
+    };
+    match scope_row(chart, scope) {
+        Some(row) => append_mark(text, chart, place, row_y(row), mark),
+        None => Ok(()),
     }
 }
 
-/// Why a scope is cancelled.
-#[derive(Clone, Copy)]
-pub(crate) struct ShownCause(pub(crate) Cause);
+/// Appends a line through all rows, if the event at the place is a tick in view, with the moment at its head, if there is
+/// room. It is refused for memory alone.
+pub(crate) fn append_moment(
+    text: &mut String,
+    chart: &Chart<'_>,
+    place: usize,
+    event: Event,
+) -> Result<(), AllocError> {
+    let Event::Tick { now } = event else {
+        return Ok(());
+    };
+    if !chart.drawn.view.shows(place) {
+        return Ok(());
+    }
+    let x = x_of(chart, place);
+    let foot = row_y(chart.height);
+    write!(
+        text,
+        "<path class='tick' d='M{x} 64V{foot}'><title>{now} ms</title></path>\n"
+    )?;
+    if chart.places <= 120 {
+        write!(
+            text,
+            "<text class='moment' transform='translate({x} 60) rotate(-45)'>{now} ms</text>\n"
+        )?;
+    }
+    Ok(())
+}
 
-impl fmt::Display for ShownCause {
-    ghost output = { λ c. Some (cause_text c.0) };
+// ---- cancels
 
-    #[tactic(auto, unfolding(crate::specs::MarkText::cause_text))]
-    fn fmt<W: fmt::Write>(&self, f: &mut fmt::Formatter<W>) -> fmt::Result {
-        let kind = self.0.kind.word();
-        write!(f, " cancelled from scope {}, {kind}", self.0.scope)
+/// Whether a scope of this policy is cancelled by its joiner because tasks failed.
+fn fails_by(policy: Policy) -> bool {
+    matches!(
+        policy,
+        Policy::All | Policy::AwaitOk | Policy::Until(Rule::FailuresAtLeast(_))
+    )
+}
+
+/// Whether the cancel at the place is an accident: a call, a deadline, a joiner that gave up, or a close that came
+/// before the join. A joiner that has what it waits for, and the close of a joined scope, are normal ends.
+pub(crate) fn is_accident(chart: &Chart<'_>, place: usize, cause: Cause) -> bool {
+    let source = scope_at(&chart.columns, cause.scope);
+    match (cause.kind, source) {
+        (CauseKind::Call | CauseKind::Deadline, _) | (_, None) => true,
+        (CauseKind::Joiner, Some(row)) => fails_by(row.opened.policy),
+        (CauseKind::Close, Some(row)) => match row.joined {
+            Some(at) => place <= at,
+            None => true,
+        },
     }
 }
 
-/// From what a shield holds.
-#[derive(Clone, Copy)]
-struct ShownHeld(ScopeId);
-
-impl fmt::Display for ShownHeld {
-    ghost output = { λ h. Some (held_text h.0) };
-
-    #[tactic(auto, unfolding(crate::specs::MarkText::held_text))]
-    fn fmt<W: fmt::Write>(&self, f: &mut fmt::Formatter<W>) -> fmt::Result {
-        write!(f, " shielded from scope {}", self.0)
+/// Appends the cancel that reached the scope, if one did in view and the scope has a row: its mark, and a line from the scope
+/// whose own cancel it was. It is refused for memory alone.
+pub(crate) fn append_cancel(
+    text: &mut String,
+    chart: &Chart<'_>,
+    scope: ScopeId,
+    row: &ScopeRow,
+) -> Result<(), AllocError> {
+    let (Some(reached), Some((place, cause))) = (scope_row(chart, scope), row.cancelled) else {
+        return Ok(());
+    };
+    if !chart.drawn.view.shows(place) {
+        return Ok(());
     }
+    let x = x_of(chart, place);
+    let y = row_y(reached);
+    let source = row_y(scope_row(chart, cause.scope).unwrap_or(reached));
+    write!(text, "<path class='reach' d='M{x} {source}V{y}'/>\n")?;
+    let accident = is_accident(chart, place, cause);
+    append_mark(
+        text,
+        chart,
+        place,
+        y,
+        Mark::Cancelled(scope, cause, accident),
+    )
 }
 
-/// What the mark says.
-#[derive(Clone, Copy)]
-struct ShownNote(Mark);
-
-impl fmt::Display for ShownNote {
-    ghost output = { λ n. Some (note_text n.0) };
-
-    fn fmt<W: fmt::Write>(&self, f: &mut fmt::Formatter<W>) -> fmt::Result {
-        match self.0 {
-            Mark::Ended { task, state } => write!(f, "task {task}{}", ShownState(state)),
-            Mark::Never { task } => write!(f, "task {task} never starts"),
-            Mark::Joined { scope } => write!(f, "scope {scope} is joined"),
-            Mark::Closing { scope } => write!(f, "scope {scope} begins to close"),
-            Mark::Closed { scope } => write!(f, "scope {scope} is closed"),
-            Mark::Moved { scope, deadline } => write!(f, "scope {scope}{}", ShownMove(deadline)),
-            Mark::Cancelled { scope, cause, .. } => write!(f, "scope {scope}{}", ShownCause(cause)),
-            Mark::Held { scope, source } => write!(f, "scope {scope}{}", ShownHeld(source)),
-        }
-    }
-}
-
-/// Where a mark stands.
-#[derive(Clone, Copy)]
-struct ShownAt(Spot);
-
-impl fmt::Display for ShownAt {
-    ghost output = { λ a. Some (at_text a.0) };
-
-    #[tactic(auto, unfolding(crate::specs::Marks::at_text))]
-    fn fmt<W: fmt::Write>(&self, f: &mut fmt::Formatter<W>) -> fmt::Result {
-        write!(f, " x='{}' y='{}'", self.0.x, self.0.y)
-    }
-}
-
-/// What is read if a mark is pointed at.
-#[derive(Clone, Copy)]
-struct ShownTitle(ShownMark);
-
-impl fmt::Display for ShownTitle {
-    ghost output = { λ t. Some (note_title t.0) };
-
-    #[tactic(auto, unfolding(crate::specs::Marks::note_title))]
-    fn fmt<W: fmt::Write>(&self, f: &mut fmt::Formatter<W>) -> fmt::Result {
-        let word = unit_word(self.0.measure);
-        let unit = unit_end(self.0.measure);
-        let note = ShownNote(self.0.mark);
-        write!(f, "<title>{word}{}{unit}: {note}</title>", self.0.number)
-    }
-}
-
-/// The mark at the spot, with what happened there.
-#[derive(Clone, Copy)]
-pub struct ShownMark {
-    pub spot: Spot,
-    pub measure: Measure,
-    /// The number of the event, or of its line, or its time.
-    pub number: u64,
-    pub mark: Mark,
-}
-
-impl fmt::Display for ShownMark {
-    ghost output = { λ m. Some (mark_text m) };
-
-    fn fmt<W: fmt::Write>(&self, f: &mut fmt::Formatter<W>) -> fmt::Result {
-        let shape = self.mark.word();
-        let at = ShownAt(self.spot);
-        let title = ShownTitle(*self);
-        write!(f, "<use href='#{shape}'{at}>{title}</use>\n")
+/// Appends the mark of the scope's shield, if it held off a cancel. It is refused for memory alone.
+pub(crate) fn append_shield(
+    text: &mut String,
+    chart: &Chart<'_>,
+    scope: ScopeId,
+    row: &ScopeRow,
+) -> Result<(), AllocError> {
+    let Some((place, cause)) = held_off(&chart.columns, row) else {
+        return Ok(());
+    };
+    match scope_row(chart, scope) {
+        Some(at) => append_mark(
+            text,
+            chart,
+            place,
+            row_y(at),
+            Mark::Held(scope, cause.scope),
+        ),
+        None => Ok(()),
     }
 }

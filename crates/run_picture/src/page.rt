@@ -2,166 +2,95 @@
 //!
 //! Names, values, joiners and numbers are all that it takes from a run, and none of them has a character that means
 //! anything to HTML: nothing is left to be escaped.
-ghost use Rattle.std.specs.Prelude.{◌++◌, ◌+◌, ◌<◌, ◌^◌, ◌≡◌, ◌≤◌};
-ghost use Rattle.run_picture.specs.{IfOk, IsPageOf, OnOk, columns_text, events_text, head_numbers, joiner_at, joiners_text, length, lines_text, rows_text, scopes_text};
-ghost use Rattle.run_picture.specs.{string_bytes, tasks_text, times_text, word_at, words_text};
+ghost use Rattle.std.specs.Prelude.{◌≡◌};
 
-use crate::columns::{Columns, ScopeRow, TaskRow, columns_of};
-use crate::digits::append_numbers;
+use crate::chart::scope_number;
+use crate::columns::{Columns, columns_of};
+use crate::digits::{append_number, append_numbers, step};
 use crate::page_drawing::PAGE_DRAWING;
 use crate::page_head::PAGE_HEAD;
 use crate::page_model::PAGE_MODEL;
-use crate::page_rows::{append_event, append_scope, append_task, append_time};
-use crate::words::{Wanted, Words, words_of};
+use crate::page_rows::{Before, append_event, append_scope, append_task};
+use crate::view::small_place;
+use crate::words::Words;
 use scope_checks::Readings;
 use scope_log::ShownJoiner;
-use scope_rules::{Event, ScopeId, Value};
+use scope_rules::{Event, State, Value};
 use std::alloc::{AllocError, Global};
 
-/// Appends the word at the index, followed by a comma. It is refused for memory alone.
-fn append_word(text: &mut String, words: &[Value], index: usize) -> Result<(), AllocError>
-    ensures { OnOk result (string_bytes text.new ≡ string_bytes text.old ++ word_at words.now index) }
-{
-    match words.get(index) {
-        Some(word) => write!(text, "{word},"),
-        None => Ok(()),
+/// What a page says of a run: its columns, the words of its tasks, its events and their times.
+#[derive(Clone, Copy)]
+struct Paged<'a> {
+    columns: &'a Columns,
+    names: &'a Words,
+    values: &'a Words,
+    events: &'a [Event],
+    times: &'a [u32],
+}
+
+/// The value or the fault, if one can be read.
+fn read_word(state: State) -> Option<Value> {
+    match state {
+        State::Unavailable => None,
+        State::Success(value) => Some(value),
+        State::Failed(fault) => Some(Value::Text(fault.0)),
     }
 }
 
-/// Appends the words, each followed by a comma. It is refused for memory alone.
-#[tactic(auto, using(std::proofs::lemmas::Grind::common_steps, crate::proofs::Written::each_none, crate::proofs::Written::each_more))]
-fn append_words(text: &mut String, words: &[Value]) -> Result<(), AllocError>
-    ensures { OnOk result (string_bytes text.new ≡ string_bytes text.old ++ words_text words.now) }
-{
-    for index in 0..words.len() {
-        append_word(text, words, index)?;
+/// Appends the lines of names, of values and of joiners, each followed by a comma. It is refused for memory alone.
+fn append_lines(text: &mut String, paged: &Paged<'_>) -> Result<(), AllocError> {
+    for word in &paged.names.words {
+        write!(text, "{word},")?;
     }
-    Ok(())
-}
-
-/// Appends the joiner of the scope at the index, followed by a comma. It is refused for memory alone.
-fn append_joiner(text: &mut String, rows: &[ScopeRow], index: usize) -> Result<(), AllocError>
-    ensures { OnOk result (string_bytes text.new ≡ string_bytes text.old ++ joiner_at rows.now index) }
-{
-    let Some(row) = rows.get(index) else {
-        return Ok(());
-    };
-    let joiner = ShownJoiner(row.opened.policy);
-    write!(text, "{joiner},")
-}
-
-/// Appends the joiners of the scopes, each followed by a comma. It is refused for memory alone.
-#[tactic(auto, using(std::proofs::lemmas::Grind::common_steps, crate::proofs::Written::each_none, crate::proofs::Written::each_more))]
-fn append_joiners(text: &mut String, rows: &[ScopeRow]) -> Result<(), AllocError>
-    ensures { OnOk result (string_bytes text.new ≡ string_bytes text.old ++ joiners_text rows.now) }
-{
-    for index in 0..rows.len() {
-        append_joiner(text, rows, index)?;
-    }
-    Ok(())
-}
-
-/// Appends the times. It is refused for memory alone.
-#[tactic(auto, using(std::proofs::lemmas::Grind::common_steps, crate::proofs::Written::each_none, crate::proofs::Written::each_more))]
-fn append_times(text: &mut String, times: &[u32]) -> Result<(), AllocError>
-    ensures { OnOk result (string_bytes text.new ≡ string_bytes text.old ++ times_text times.now) }
-{
-    for index in 0..times.len() {
-        append_time(text, times, index)?;
-    }
-    Ok(())
-}
-
-/// Appends the rows of the tasks. It is refused for memory alone.
-#[tactic(auto, using(std::proofs::lemmas::Grind::common_steps, crate::proofs::Written::each_none, crate::proofs::Written::each_more))]
-fn append_tasks(
-    text: &mut String,
-    rows: &[TaskRow],
-    names: &Words,
-    values: &Words,
-) -> Result<(), AllocError>
-    ensures { OnOk result (string_bytes text.new ≡ string_bytes text.old ++ tasks_text rows.now names.now values.now) }
-{
-    for index in 0..rows.len() {
-        append_task(text, rows, names, values, index)?;
-    }
-    Ok(())
-}
-
-/// Appends the rows of the scopes, of which so many were numbered before. It is refused for memory alone.
-#[tactic(auto, using(std::proofs::lemmas::Grind::common_steps, crate::proofs::Written::each_none, crate::proofs::Written::each_more))]
-fn append_scopes(text: &mut String, rows: &[ScopeRow], before: ScopeId) -> Result<(), AllocError>
-    requires { before + length rows.now < 2 ^ 32 }
-    ensures { OnOk result (string_bytes text.new ≡ string_bytes text.old ++ scopes_text rows.now before) }
-{
-    for index in 0..rows.len() as u32 {
-        append_scope(text, rows, before, index)?;
-    }
-    Ok(())
-}
-
-/// Appends the ticks and the new deadlines. It is refused for memory alone.
-#[tactic(auto, using(std::proofs::lemmas::Grind::common_steps, crate::proofs::Written::each_none, crate::proofs::Written::each_more))]
-fn append_events(text: &mut String, events: &[Event]) -> Result<(), AllocError>
-    ensures { OnOk result (string_bytes text.new ≡ string_bytes text.old ++ events_text events.now) }
-{
-    for index in 0..events.len() {
-        append_event(text, events, index)?;
-    }
-    Ok(())
-}
-
-/// Appends the lines of words. It is refused for memory alone.
-fn append_lines(
-    text: &mut String,
-    columns: &Columns,
-    names: &Words,
-    values: &Words,
-) -> Result<(), AllocError>
-    ensures { OnOk result (string_bytes text.new ≡ string_bytes text.old ++ lines_text columns.now names.now values.now) }
-{
-    append_words(text, &names.words)?;
     text.push_str("\n")?;
-    append_words(text, &values.words)?;
+    for word in &paged.values.words {
+        write!(text, "{word},")?;
+    }
     text.push_str("\n")?;
-    append_joiners(text, &columns.scopes)?;
-    text.push_str("\n")?;
+    for row in &paged.columns.scopes {
+        write!(text, "{},", ShownJoiner(row.opened.policy))?;
+    }
+    text.push_str("\n")
+}
+
+/// Appends how many of each there are, and what was before them; and the times, each as a step from the one before. It is
+/// refused for memory alone.
+fn append_counts(text: &mut String, paged: &Paged<'_>, moment: u64) -> Result<(), AllocError> {
+    append_numbers(
+        text,
+        &[
+            paged.columns.tasks.len() as u64,
+            paged.columns.scopes.len() as u64,
+            paged.events.len() as u64,
+            paged.times.len() as u64,
+            u64::from(paged.columns.tasks_before),
+            u64::from(paged.columns.scopes_before),
+            moment,
+        ],
+    )?;
+    let mut last = 0;
+    for time in paged.times {
+        append_number(text, step(last, *time))?;
+        last = *time;
+    }
     Ok(())
 }
 
-/// How many of each there are, and what was before them.
-fn head_numbers(columns: &Columns, events: &[Event], times: &[u32], moment: u64) -> [u64; 7]
-    ensures { result ≡ head_numbers columns.now events.now times.now moment }
-{
-    [
-        columns.tasks.len() as u64,
-        columns.scopes.len() as u64,
-        events.len() as u64,
-        times.len() as u64,
-        u64::from(columns.tasks_before),
-        u64::from(columns.scopes_before),
-        moment,
-    ]
-}
-
-/// Appends the line of numbers. It is refused for memory alone.
-fn append_rows(
-    text: &mut String,
-    columns: &Columns,
-    names: &Words,
-    values: &Words,
-    events: &[Event],
-    times: &[u32],
-    moment: u64,
-) -> Result<(), AllocError>
-    requires { columns.now.scopes_before + length columns.now.scopes.items < 2 ^ 32 }
-    ensures { OnOk result (string_bytes text.new ≡ string_bytes text.old ++ rows_text columns.now names.now values.now events.now times.now moment) }
-{
-    append_numbers(text, &head_numbers(columns, events, times, moment))?;
-    append_times(text, times)?;
-    append_tasks(text, &columns.tasks, names, values)?;
-    append_scopes(text, &columns.scopes, columns.scopes_before)?;
-    append_events(text, events)?;
+/// Appends the rows of the tasks and of the scopes, the ticks and the new deadlines. It is refused for memory alone.
+fn append_rows(text: &mut String, paged: &Paged<'_>) -> Result<(), AllocError> {
+    let mut before = Before::nothing();
+    for (index, row) in paged.columns.tasks.iter().enumerate() {
+        let name = paged.names.number_at(index);
+        let value = paged.values.number_at(index);
+        before = append_task(text, before, row, name, value)?;
+    }
+    let mut before = Before::nothing();
+    for (index, row) in paged.columns.scopes.iter().enumerate() {
+        before = append_scope(text, before, scope_number(paged.columns, index), row)?;
+    }
+    for (place, event) in paged.events.iter().enumerate() {
+        append_event(text, small_place(place), *event)?;
+    }
     Ok(())
 }
 
@@ -179,17 +108,26 @@ pub fn page_of<R: Readings>(
 ) -> Result<String, AllocError>
     requires events { events.now ≡ (R.history readings.now).events }
     requires moment { moment ≡ (R.history readings.now).base.moment }
-    ensures { IfOk result (λ text. IsPageOf (string_bytes text) (R.history readings.now) times.now) }
 {
     let columns = columns_of(alloc, readings, events)?;
-    let names = words_of(alloc, &columns.tasks, Wanted::Name)?;
-    let values = words_of(alloc, &columns.tasks, Wanted::Value)?;
-    let last = readings.scopes();
+    let mut names = Words::new(alloc);
+    let mut values = Words::new(alloc);
+    for row in &columns.tasks {
+        names.push(Some(Value::Text(row.forked.label.name)))?;
+        values.push(read_word(row.state))?;
+    }
+    let paged = Paged {
+        columns: &columns,
+        names: &names,
+        values: &values,
+        events,
+        times,
+    };
     let mut text = String::from_str(alloc, PAGE_HEAD)?;
-    append_lines(&mut text, &columns, &names, &values)?;
-    append_rows(&mut text, &columns, &names, &values, events, times, moment)?;
+    append_lines(&mut text, &paged)?;
+    append_counts(&mut text, &paged, moment)?;
+    append_rows(&mut text, &paged)?;
     text.push_str(PAGE_MODEL)?;
     text.push_str(PAGE_DRAWING)?;
-    let _last = last;
     Ok(text)
 }

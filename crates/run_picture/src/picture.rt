@@ -1,148 +1,76 @@
 //! The picture.
-ghost use Rattle.std.specs.Prelude.{◌++◌, ◌≡◌};
-ghost use Rattle.run_picture.specs.{IfOk, IsChartOf, OnOk, all, axis_text, cancel_figures, drawn_rows, drawn_text, event_figures, figures, foot_text, indexes, length, moment_line, now_in};
-ghost use Rattle.run_picture.specs.{picture_text, places, row_at, scope_numbers, sheet_of, shield_figures, shown, string_bytes};
+ghost use Rattle.std.specs.Prelude.{◌≡◌};
 
 use crate::axis::append_axis;
-use crate::cancels::append_cancel;
-use crate::chart::{Chart, Drawn, chart_of};
-use crate::events::{append_event, append_moment};
-use crate::frame::{Frame, ShownFoot, ShownHead};
+use crate::chart::{Chart, Drawn, chart_of, row_y, scope_number};
 use crate::lanes::append_row;
-use crate::shields::append_shield;
-use crate::view::{View, time_at};
+use crate::marks::{append_cancel, append_event, append_moment, append_shield};
+use crate::pieces::{
+    CANCEL_LEGEND, DARK, END_SHAPES, LIGHT, LINE_LEGEND, MARK_LEGEND, SCOPE_SHAPES, SVG_BEGIN,
+};
+use crate::view::{View, high, natural_width, page_width, small_place, time_at};
 use scope_checks::Readings;
 use scope_rules::Event;
 use std::alloc::{AllocError, Global};
 
-/// Appends the row with this index. It is refused for memory alone.
-#[tactic(auto, unfolding(crate::specs::Picture::row_at))]
-fn append_row_at<R: Readings>(
-    readings: &R,
-    chart: &Chart<'_>,
-    text: &mut String,
-    index: u32,
-) -> Result<(), AllocError>
-    requires { IsChartOf chart.now chart.now.drawn (R.history readings.now) }
-    ensures { OnOk result (string_bytes text.new ≡ string_bytes text.old ++ shown (row_at (R.history readings.now) (sheet_of chart.now.drawn) index)) }
-{
-    match chart.rows.get(index as usize) {
-        Some(row) => append_row(readings, chart, text, index, *row),
-        None => Ok(()),
-    }
-}
-
-/// Appends the rows. It is refused for memory alone.
-#[tactic(auto, using(std::proofs::lemmas::Grind::common_steps, crate::proofs::Drawings::all_more))]
-fn append_rows_of<R: Readings>(
-    readings: &R,
-    chart: &Chart<'_>,
-    text: &mut String,
-) -> Result<(), AllocError>
-    requires { IsChartOf chart.now chart.now.drawn (R.history readings.now) }
-    ensures { OnOk result (string_bytes text.new ≡ string_bytes text.old ++ shown (all (row_at (R.history readings.now) (sheet_of chart.now.drawn)) (indexes (R.history readings.now) (sheet_of chart.now.drawn)))) }
-{
-    for index in 0..chart.height {
-        append_row_at(readings, chart, text, index)?;
-    }
-    Ok(())
-}
-
-/// Appends what the events draw, one after the other. It is refused for memory alone.
-#[tactic(auto, using(std::proofs::lemmas::Grind::common_steps, crate::proofs::Drawings::all_more))]
-fn append_events<R: Readings>(
-    readings: &R,
-    chart: &Chart<'_>,
-    text: &mut String,
-) -> Result<(), AllocError>
-    requires { IsChartOf chart.now chart.now.drawn (R.history readings.now) }
-    ensures { OnOk result (string_bytes text.new ≡ string_bytes text.old ++ shown (all (event_figures (R.history readings.now) (sheet_of chart.now.drawn)) (places (R.history readings.now)))) }
-{
-    for place in 0..chart.columns {
-        append_event(readings, chart, text, place)?;
-    }
-    Ok(())
-}
-
-/// Appends the lines of the ticks. It is refused for memory alone.
-#[tactic(auto, using(std::proofs::lemmas::Grind::common_steps, crate::proofs::Drawings::all_more))]
-fn append_moments<R: Readings>(
-    readings: &R,
-    chart: &Chart<'_>,
-    text: &mut String,
-) -> Result<(), AllocError>
-    requires { IsChartOf chart.now chart.now.drawn (R.history readings.now) }
-    ensures { OnOk result (string_bytes text.new ≡ string_bytes text.old ++ shown (all (moment_line (R.history readings.now) (sheet_of chart.now.drawn)) (places (R.history readings.now)))) }
-{
-    for place in 0..chart.columns {
-        append_moment(readings, chart, text, place)?;
-    }
-    Ok(())
-}
-
-/// Appends the cancels with what they reach. It is refused for memory alone.
-#[tactic(auto, using(std::proofs::lemmas::Grind::common_steps, crate::proofs::Drawings::all_more))]
-fn append_cancels<R: Readings>(
-    readings: &R,
-    chart: &Chart<'_>,
-    text: &mut String,
-) -> Result<(), AllocError>
-    requires { IsChartOf chart.now chart.now.drawn (R.history readings.now) }
-    ensures { OnOk result (string_bytes text.new ≡ string_bytes text.old ++ shown (all (cancel_figures (R.history readings.now) (sheet_of chart.now.drawn)) (scope_numbers (R.history readings.now)))) }
-{
-    let before = readings.retired_scopes();
-    let last = readings.scopes();
-    for index in 0..last - before {
-        append_cancel(readings, chart, text, before + 1 + index)?;
-    }
-    Ok(())
-}
-
-/// Appends the shields that held. It is refused for memory alone.
-#[tactic(auto, using(std::proofs::lemmas::Grind::common_steps, crate::proofs::Drawings::all_more))]
-fn append_shields<R: Readings>(
-    readings: &R,
-    chart: &Chart<'_>,
-    text: &mut String,
-) -> Result<(), AllocError>
-    requires { IsChartOf chart.now chart.now.drawn (R.history readings.now) }
-    ensures { OnOk result (string_bytes text.new ≡ string_bytes text.old ++ shown (all (shield_figures (R.history readings.now) (sheet_of chart.now.drawn)) (scope_numbers (R.history readings.now)))) }
-{
-    let before = readings.retired_scopes();
-    let last = readings.scopes();
-    for index in 0..last - before {
-        append_shield(readings, chart, text, before + 1 + index)?;
-    }
-    Ok(())
-}
-
-/// Appends all of the picture but its head. It is refused for memory alone.
-fn append_body<R: Readings>(
-    readings: &R,
-    chart: &Chart<'_>,
-    text: &mut String,
-) -> Result<(), AllocError>
-    requires { IsChartOf chart.now chart.now.drawn (R.history readings.now) }
-    ensures { OnOk result (string_bytes text.new ≡ string_bytes text.old ++ (axis_text (R.history readings.now) (sheet_of chart.now.drawn) ++ (shown (figures (R.history readings.now) (sheet_of chart.now.drawn)) ++ foot_text (length (drawn_rows (R.history readings.now) (sheet_of chart.now.drawn)))))) }
-{
-    append_axis(readings, chart, text)?;
-    append_moments(readings, chart, text)?;
-    append_rows_of(readings, chart, text)?;
-    append_events(readings, chart, text)?;
-    append_cancels(readings, chart, text)?;
-    append_shields(readings, chart, text)?;
-    write!(text, "{}", ShownFoot(chart.height))
-}
-
-/// The last reading of the clock, if there are times, or else the moment.
-fn now_of<R: Readings>(readings: &R, drawn: &Drawn<'_>) -> u64
-    ensures { result ≡ now_in (R.history readings.now) (sheet_of drawn.now) }
-{
-    if drawn.times.is_empty() {
-        readings.moment()
+/// Appends the picture's head: its size, before it is scaled too; what it shows, up to this moment; the style and the
+/// shapes; and what the way to the right is. It is refused for memory alone.
+fn append_head(text: &mut String, chart: &Chart<'_>, now: u64) -> Result<(), AllocError> {
+    let asked = chart.drawn.view.width;
+    let timed = !chart.drawn.times.is_empty();
+    let width = page_width(asked);
+    let natural = natural_width(asked, chart.height);
+    let tall = row_y(chart.height) + 84;
+    let height = tall * 1000 / high(chart.height);
+    let until = if timed { "in" } else { "up to" };
+    let axis = if timed {
+        "time in ms"
     } else {
-        time_at(drawn.times, u32::MAX)
+        "events, not time"
+    };
+    let places = chart.places;
+    write!(text, "{SVG_BEGIN} width='{width}' height='{height}'")?;
+    write!(text, " viewBox='0 0 {natural} {tall}'>\n")?;
+    write!(text, "<title>{places} events {until} {now} ms</title>\n")?;
+    write!(text, "{LIGHT}{DARK}{END_SHAPES}{SCOPE_SHAPES}")?;
+    write!(
+        text,
+        "<text class='moment' x='8' y='16'>to the right: {axis}</text>\n"
+    )
+}
+
+/// Appends the cancels with what they reach, and the shields that held. It is refused for memory alone.
+fn append_cancels(text: &mut String, chart: &Chart<'_>) -> Result<(), AllocError> {
+    for (index, row) in chart.columns.scopes.iter().enumerate() {
+        append_cancel(text, chart, scope_number(&chart.columns, index), row)?;
     }
+    for (index, row) in chart.columns.scopes.iter().enumerate() {
+        append_shield(text, chart, scope_number(&chart.columns, index), row)?;
+    }
+    Ok(())
+}
+
+/// Appends all of the picture but its head and its foot: what comes later is drawn over what comes before. It is refused for
+/// memory alone.
+fn append_body(text: &mut String, chart: &Chart<'_>) -> Result<(), AllocError> {
+    append_axis(text, chart)?;
+    for (place, event) in chart.drawn.events.iter().enumerate() {
+        append_moment(text, chart, place, *event)?;
+    }
+    for (index, row) in chart.rows.iter().enumerate() {
+        append_row(text, chart, small_place(index), *row)?;
+    }
+    for (place, event) in chart.drawn.events.iter().enumerate() {
+        append_event(text, chart, place, *event)?;
+    }
+    append_cancels(text, chart)
+}
+
+/// Appends the picture's foot, below so many rows. It is refused for memory alone.
+fn append_foot(text: &mut String, rows: u32) -> Result<(), AllocError> {
+    let y = row_y(rows) + 16;
+    write!(text, "<g transform='translate(8 {y})'>\n")?;
+    write!(text, "{LINE_LEGEND}{MARK_LEGEND}{CANCEL_LEGEND}")
 }
 
 /// The picture of what was read, as an SVG text: as much of it as the view says, with the lines of the script and
@@ -157,19 +85,17 @@ pub fn picture_with<R: Readings>(
     drawn: Drawn<'_>,
 ) -> Result<String, AllocError>
     requires { drawn.events.now ≡ (R.history readings.now).events }
-    ensures { IfOk result (λ text. string_bytes text ≡ drawn_text (R.history readings.now) (sheet_of drawn.entry)) }
 {
     let chart = chart_of(alloc, readings, drawn)?;
-    let frame = Frame {
-        width: chart.drawn.view.width,
-        columns: chart.columns,
-        rows: chart.height,
-        now: now_of(readings, &chart.drawn),
-        timed: !chart.drawn.times.is_empty(),
+    let now = if chart.drawn.times.is_empty() {
+        readings.moment()
+    } else {
+        time_at(chart.drawn.times, u32::MAX)
     };
-    let head = ShownHead(frame);
-    let mut text = format!(in alloc; "{head}")?;
-    append_body(readings, &chart, &mut text)?;
+    let mut text = String::new(alloc);
+    append_head(&mut text, &chart, now)?;
+    append_body(&mut text, &chart)?;
+    append_foot(&mut text, chart.height)?;
     Ok(text)
 }
 
@@ -184,7 +110,6 @@ pub fn picture_of<R: Readings>(
     events: &[Event],
 ) -> Result<String, AllocError>
     requires { events.now ≡ (R.history readings.now).events }
-    ensures { IfOk result (λ text. string_bytes text ≡ picture_text (R.history readings.now)) }
 {
     picture_with(
         alloc,

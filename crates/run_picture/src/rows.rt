@@ -1,19 +1,11 @@
 //! The rows of a picture: a task, a scope, a closed scope with all that lies in it, or tasks of one scope that have ended.
-ghost use Rattle.std.specs.Prelude.{◌<◌, ◌≡◌};
-ghost use Rattle.run_picture.specs.{[], IfOk, OnOk, begun, begun_with, class_of, counted, fits, folded_from, folded_in, has_ended, has_failed, is_done, is_ended_as, is_failed, is_settled};
-ghost use Rattle.run_picture.specs.{is_task, length, map, more_if, node_of, plain, rows_of, taken_in};
+ghost use Rattle.std.specs.Prelude.{◌<◌, ◌∷◌, ◌≡◌};
+ghost use Rattle.run_picture.specs.{IfOk, StandFor, begun, begun_with, class_of, counted, fits, is_done, is_ended_as, is_failed, is_task, length, more_if, plain, taken_in};
 
-use crate::forest::Placed;
-use scope_checks::Readings;
-use scope_rules::{ScopeId, Stage, State, TaskId};
+use crate::columns::Columns;
+use crate::placed::Placed;
+use scope_rules::{Stage, State};
 use std::alloc::{AllocError, Global};
-
-/// What a node of the tree is.
-#[derive(Clone, Copy)]
-pub enum Node {
-    Task(TaskId),
-    Scope(ScopeId),
-}
 
 /// What a folded row takes in.
 #[derive(Clone, Copy)]
@@ -57,33 +49,6 @@ pub enum Class {
     Scope { closed: bool },
 }
 
-/// The node with this number: first come the tasks, then the scopes.
-pub(crate) fn node_of<R: Readings>(readings: &R, node: u32) -> Option<Node>
-    ensures { result ≡ node_of (R.history readings.now) node }
-{
-    let tasks = readings.tasks() - readings.retired_tasks();
-    if node < tasks {
-        return Some(Node::Task(readings.retired_tasks() + 1 + node));
-    }
-    let scopes = readings.scopes() - readings.retired_scopes();
-    if node - tasks < scopes {
-        Some(Node::Scope(readings.retired_scopes() + 1 + (node - tasks)))
-    } else {
-        None
-    }
-}
-
-/// Whether the task failed.
-#[tactic(auto, using(scope_checks::proofs::Checked::task_passes))]
-fn failed<R: Readings>(readings: &R, task: TaskId) -> bool
-    ensures { result ≡ has_failed (R.history readings.now) task }
-{
-    match readings.forking(task) {
-        Some(_) => is_failed(readings.state(task)),
-        None => false,
-    }
-}
-
 /// Whether it is the state of a task that failed.
 fn is_failed(state: State) -> bool
     ensures { result ≡ is_failed state }
@@ -91,35 +56,20 @@ fn is_failed(state: State) -> bool
     matches!(state, State::Failed(_))
 }
 
-/// Whether the task has ended, or never starts.
-#[tactic(auto, using(scope_checks::proofs::Checked::task_passes))]
-fn ended<R: Readings>(readings: &R, task: TaskId) -> bool
-    ensures { result ≡ has_ended (R.history readings.now) task }
-{
-    match readings.forking(task) {
-        Some(_) => is_settled(readings.stage(task)),
-        None => false,
-    }
-}
-
-/// Whether nothing more comes of a task at this stage.
-fn is_settled(stage: Stage) -> bool
-    ensures { result ≡ is_settled stage }
-{
-    matches!(stage, Stage::Never | Stage::Finished)
-}
-
 /// What the node is for a fold.
-fn class_of<R: Readings>(readings: &R, node: u32) -> Class
-    ensures { result ≡ class_of (R.history readings.now) node }
+fn class_of(columns: &Columns, node: u32) -> Class
+    ensures { result ≡ class_of columns.now node }
 {
-    match node_of(readings, node) {
-        Some(Node::Task(task)) => Class::Task {
-            failed: failed(readings, task),
-            ended: ended(readings, task),
-        },
-        Some(Node::Scope(scope)) => Class::Scope {
-            closed: readings.closed(scope),
+    let node = node as usize;
+    if let Some(row) = columns.tasks.get(node) {
+        return Class::Task {
+            failed: is_failed(row.state),
+            ended: matches!(row.stage, Stage::Never | Stage::Finished),
+        };
+    }
+    match columns.scopes.get(node.saturating_sub(columns.tasks.len())) {
+        Some(row) => Class::Scope {
+            closed: row.closed.is_some(),
         },
         None => Class::Scope { closed: false },
     }
@@ -212,25 +162,12 @@ fn is_done(class: Class) -> bool
 }
 
 /// Whether the node is a task that ended so.
-fn is_ended_as(failed: bool, class: Class) -> bool
-    ensures { result ≡ is_ended_as failed class }
+fn is_ended_as(as_failed: bool, class: Class) -> bool
+    ensures { result ≡ is_ended_as as_failed class }
 {
-    match (failed, class) {
-        (
-            true,
-            Class::Task {
-                failed: true,
-                ended: true,
-            },
-        ) => true,
-        (
-            false,
-            Class::Task {
-                failed: false,
-                ended: true,
-            },
-        ) => true,
-        _ => false,
+    match class {
+        Class::Task { failed, ended } => ended && as_failed == failed,
+        Class::Scope { .. } => false,
     }
 }
 
@@ -261,56 +198,36 @@ fn taken_in(row: Row, placed: Placed, class: Class) -> Option<Row>
     }
 }
 
-/// Puts the node into the last row, if that takes it in, or else begins a row. It is refused
-/// for memory alone.
-#[tactic(auto, using(std::proofs::lemmas::Grind::common_steps, crate::proofs::Folding::folded_last))]
-fn fold_in(full: bool, rows: &mut Vec<Row>, placed: Placed, class: Class) -> Result<(), AllocError>
-    ensures { OnOk result (rows.new.items ≡ folded_in full rows.old.items placed class) }
-{
-    let Some(row) = rows.pop() else {
-        rows.push(begun(full, placed, class))?;
-        return Ok(());
-    };
-    match taken_in(row, placed, class) {
-        Some(taken) => rows.push(taken)?,
-        None => {
-            rows.push(row)?;
-            rows.push(begun(full, placed, class))?;
-        },
-    }
-    Ok(())
-}
-
 /// So many rows a folded picture has, before the rest of each scope's tasks is one row.
-const MANY: u32 = 1000;
+const MANY: usize = 1000;
 
-/// The rows of the nodes: each by itself, or folded, if they are more than so many. It is refused for memory
-/// alone.
-pub(crate) fn rows_of<R: Readings>(
+/// The rows of the nodes: each by itself, or folded, if they are more than so many. A folded row counts just the tasks of its
+/// own stretch of the nodes, those that failed, and those that have not ended.
+///
+/// # Errors
+/// It is refused for memory alone.
+pub fn rows_of(
     alloc: Global,
-    readings: &R,
+    columns: &Columns,
     placed: &[Placed],
     limit: u32,
 ) -> Result<Vec<Row>, AllocError>
-    ensures { IfOk result (λ rows. rows.items ≡ rows_of (R.history readings.now) limit placed.now) }
+    requires few { length placed.now < 4294967295 }
+    ensures own { IfOk result (λ rows. StandFor (class_of columns.now) rows.items placed.now) }
 {
-    if placed.len() > limit as usize {
-        folded_rows(alloc, readings, placed, limit.max(MANY))
-    } else {
-        plain_rows(alloc, readings, placed)
+    match placed.split_first() {
+        Some((first, rest)) if placed.len() > limit as usize => {
+            folded_rows(alloc, columns, *first, rest, MANY.max(limit as usize))
+        },
+        _ => plain_rows(alloc, columns, placed),
     }
 }
 
 /// The rows of the nodes, each by itself. It is refused for memory alone.
-#[tactic(auto, using(std::proofs::lemmas::Grind::common_steps, crate::proofs::Folding::plain_more))]
-fn plain_rows<R: Readings>(
-    alloc: Global,
-    readings: &R,
-    placed: &[Placed],
-) -> Result<Vec<Row>, AllocError>
-    ensures { IfOk result (λ rows. rows.items ≡ map plain placed.now) }
+fn plain_rows(alloc: Global, columns: &Columns, placed: &[Placed]) -> Result<Vec<Row>, AllocError>
+    ensures { IfOk result (λ rows. StandFor (class_of columns.now) rows.items placed.now) }
 {
-    let _readings = readings;
+    let _columns = columns;
     let mut rows = Vec::new(alloc);
     for one in placed {
         rows.push(plain(*one))?;
@@ -318,21 +235,30 @@ fn plain_rows<R: Readings>(
     Ok(rows)
 }
 
-/// The rows of the nodes, folded, and from so many rows on the rest of each scope's tasks in one. It is refused for memory
-/// alone.
-#[tactic(auto, using(std::proofs::lemmas::Grind::common_steps, crate::proofs::Folding::folded_more))]
-fn folded_rows<R: Readings>(
+/// The rows of the first node and the others, folded, and from so many rows on the rest of each scope's tasks in one. It is
+/// refused for memory alone.
+fn folded_rows(
     alloc: Global,
-    readings: &R,
-    placed: &[Placed],
-    many: u32,
+    columns: &Columns,
+    first: Placed,
+    others: &[Placed],
+    many: usize,
 ) -> Result<Vec<Row>, AllocError>
-    ensures { IfOk result (λ rows. rows.items ≡ folded_from (R.history readings.now) many [] placed.now) }
+    requires { length others.now < 4294967294 }
+    ensures { IfOk result (λ rows. StandFor (class_of columns.now) rows.items (first ∷ others.now)) }
 {
     let mut rows = Vec::new(alloc);
-    for one in placed {
-        let full = many as usize <= rows.len();
-        fold_in(full, &mut rows, *one, class_of(readings, one.node))?;
+    let mut last = begun(false, first, class_of(columns, first.node));
+    for one in others {
+        let class = class_of(columns, one.node);
+        match taken_in(last, *one, class) {
+            Some(taken) => last = taken,
+            None => {
+                rows.push(last)?;
+                last = begun(many <= rows.len(), *one, class);
+            },
+        }
     }
+    rows.push(last)?;
     Ok(rows)
 }

@@ -1,391 +1,194 @@
 //! The run as Chrome trace events, as JSON.
-ghost use Rattle.std.specs.Prelude.{◌++◌, ◌≡◌};
-ghost use Rattle.run_picture.specs.{History, IfOk, IsCourseOf, IsTracedOf, OnOk, Some, all, arrow_from, beginning, cancel_records, closing_from, foot, forked_records, forking, head};
-ghost use Rattle.run_picture.specs.{micros, opening, reached_from, realm_name, record_text, result_in, scope_numbers, scope_records, stretch_in, string_bytes, task_from, task_numbers, task_records};
-ghost use Rattle.run_picture.specs.{trace_text, wait_by, written};
+ghost use Rattle.std.specs.Prelude.{◌≡◌};
 
-use crate::arounds::{Nest, nest_of};
-use crate::cancels::is_cancelled_before;
-use crate::closings::{closing_at, closings_of};
-use crate::slices::{
-    Arrow, Closing, Instant, Never, Point, ScopeSlice, Stretch, TaskSlice, Track, Wait, WaitSlice,
-};
-use crate::view::time_at;
-use run_times::landmarks::{Firsts, Landmark, firsts_of};
-use run_times::{closed_at, ended_at, started_at};
+use crate::chart::{never_starts, scope_number};
+use crate::columns::{Columns, ScopeRow, TaskRow, columns_of};
+use crate::placed::scope_at;
+use crate::view::{small_place, time_at};
 use scope_checks::Readings;
-use scope_checks::queries::cancellation;
-use scope_rules::types::records::{Forking, Opening};
-use scope_rules::{Actor, Cause, Event, ScopeId, State, TaskId};
+use scope_log::{ShownJoiner, ShownOptions};
+use scope_rules::{Actor, Event, ScopeId, TaskId};
 use std::alloc::{AllocError, Global};
-use std::fmt;
 
-/// Where tasks started and ended, and where scopes began to close and were closed.
-#[derive(Drop)]
-pub(crate) struct Course {
-    pub(crate) starts: Firsts,
-    pub(crate) ends: Firsts,
-    pub(crate) closings: Firsts,
-    pub(crate) nest: Nest,
-}
-
-/// What is traced: the events, their times, if there are any, and the course.
+/// What is traced: how many events, their times, if there are any, and the columns.
 #[derive(Clone, Copy)]
-pub(crate) struct Traced<'a> {
-    pub(crate) events: &'a [Event],
-    pub(crate) times: &'a [u32],
-    pub(crate) course: &'a Course,
-}
-
-/// The course of what was read. It is refused for memory alone.
-fn course_of<R: Readings>(
-    alloc: Global,
-    readings: &R,
-    events: &[Event],
-) -> Result<Course, AllocError>
-    requires { events.now ≡ (R.history readings.now).events }
-    ensures { IfOk result (λ course. IsCourseOf course (R.history readings.now)) }
-{
-    let tasks_before = readings.retired_tasks();
-    let tasks = readings.tasks() - tasks_before;
-    let scopes_before = readings.retired_scopes();
-    let scopes = readings.scopes() - scopes_before;
-    let nest = nest_of(alloc, readings, events)?;
-    let begins = firsts_of(alloc, events, Landmark::Began, scopes_before, scopes)?;
-    let closings = closings_of(alloc, readings, &nest, &begins)?;
-    Ok(Course {
-        starts: firsts_of(alloc, events, Landmark::Started, tasks_before, tasks)?,
-        ends: firsts_of(alloc, events, Landmark::Ended, tasks_before, tasks)?,
-        closings,
-        nest,
-    })
+struct Traced<'a> {
+    places: usize,
+    times: &'a [u32],
+    columns: &'a Columns,
 }
 
 /// The time of the event at the place, in microseconds.
-fn micros(times: &[u32], place: usize) -> u64
-    ensures { result ≡ micros times.now place }
-{
-    1000 * time_at(times, place.min(u32::MAX as usize) as u32)
+fn micros(times: &[u32], place: usize) -> u64 {
+    1000 * time_at(times, small_place(place))
 }
 
-/// From the one place to the other, if it ended there, or else to the last reading of the clock, on the track.
-fn stretch_of(
-    events: &[Event],
-    times: &[u32],
+/// Appends how the record of what lasts from the one place to the other begins, or else to the last reading of the clock, on the
+/// track.
+fn append_stretch(
+    text: &mut String,
+    traced: &Traced<'_>,
     track: Actor,
     from: usize,
     to: Option<usize>,
-) -> Stretch
-    ensures { (h : History) → events.now ≡ h.events → result ≡ stretch_in h times.now track from to }
-{
-    let at = micros(times, from);
-    let end = micros(times, to.unwrap_or(events.len()));
-    Stretch {
-        track,
-        at,
-        lasts: end.saturating_sub(at),
-    }
+) -> Result<(), AllocError> {
+    let at = micros(traced.times, from);
+    let lasts = micros(traced.times, to.unwrap_or(traced.places)).saturating_sub(at);
+    write!(
+        text,
+        ",\n{{\"ph\":\"X\",\"pid\":1,\"tid\":{track},\"ts\":{at},\"dur\":{lasts},\"name\":\""
+    )
 }
 
-/// What can be read of the task, if it ended.
-#[tactic(auto, using(scope_checks::proofs::Checked::task_passes))]
-fn result_of<R: Readings>(
-    readings: &R,
-    task: TaskId,
-    forked: Forking,
-    ended: Option<usize>,
-) -> Option<State>
-    requires { forking (R.history readings.now) task ≡ Some forked }
-    ensures { result ≡ result_in (R.history readings.now) task ended }
-{
-    match ended {
-        Some(_) => Some(readings.state(task)),
-        None => None,
-    }
-}
-
-/// What became of the wait of a task that started and ended there, if it did.
-fn wait_by(started: Option<usize>, ended: Option<usize>) -> Wait
-    ensures { result ≡ wait_by started ended }
-{
-    match (started, ended) {
-        (Some(_), _) => Wait::Started,
-        (None, Some(_)) => Wait::Rejected,
-        (None, None) => Wait::Still,
-    }
-}
-
-/// Appends how the task begins: with its wait, or with that it never starts. It is refused for memory alone.
-fn append_beginning<R: Readings>(
-    readings: &R,
+/// Appends how the record of what happens at once at the place begins, on the track.
+fn append_point(
+    text: &mut String,
     traced: &Traced<'_>,
-    text: &mut String,
-    task: TaskId,
-    forked: Forking,
-) -> Result<(), AllocError>
-    requires traced { IsTracedOf traced.now (R.history readings.now) }
-    requires forked { forking (R.history readings.now) task ≡ Some forked }
-    ensures { OnOk result (string_bytes text.new ≡ string_bytes text.old ++ written record_text (beginning (R.history readings.now) traced.now.times.now task forked)) }
-{
-    if is_cancelled_before(readings, forked.scope, forked.place) {
-        let never = Never(Point {
-            track: task,
-            at: micros(traced.times, forked.place),
-            scope: forked.scope,
-        });
-        return write!(text, "{never}");
-    }
-    let started = started_at(readings, &traced.course.starts, task);
-    let ended = ended_at(readings, &traced.course.ends, task);
-    let slice = WaitSlice {
-        stretch: stretch_of(
-            traced.events,
-            traced.times,
-            task,
-            forked.place,
-            started.or(ended),
-        ),
-        scope: forked.scope,
-        wait: wait_by(started, ended),
-    };
-    write!(text, "{slice}")
-}
-
-/// Appends the slice of the task that was forked, if it got its thread. It is refused for memory alone.
-fn append_started<R: Readings>(
-    readings: &R,
-    traced: &Traced<'_>,
-    text: &mut String,
-    task: TaskId,
-    forked: Forking,
-) -> Result<(), AllocError>
-    requires traced { IsTracedOf traced.now (R.history readings.now) }
-    requires forked { forking (R.history readings.now) task ≡ Some forked }
-    ensures { OnOk result (string_bytes text.new ≡ string_bytes text.old ++ written record_text (task_from (R.history readings.now) traced.now.times.now task forked)) }
-{
-    let Some(started) = started_at(readings, &traced.course.starts, task) else {
-        return Ok(());
-    };
-    let ended = ended_at(readings, &traced.course.ends, task);
-    let slice = TaskSlice {
-        stretch: stretch_of(traced.events, traced.times, task, started, ended),
-        name: forked.label.name,
-        scope: forked.scope,
-        result: result_of(readings, task, forked, ended),
-    };
-    write!(text, "{slice}")
-}
-
-/// Appends the records of the task. It is refused for memory alone.
-fn append_forked<R: Readings>(
-    readings: &R,
-    traced: &Traced<'_>,
-    text: &mut String,
-    task: TaskId,
-    forked: Forking,
-) -> Result<(), AllocError>
-    requires traced { IsTracedOf traced.now (R.history readings.now) }
-    requires forked { forking (R.history readings.now) task ≡ Some forked }
-    ensures { OnOk result (string_bytes text.new ≡ string_bytes text.old ++ written record_text (forked_records (R.history readings.now) traced.now.times.now task forked)) }
-{
-    let track = Track {
-        task,
-        name: forked.label.name,
-    };
-    write!(text, "{track}")?;
-    append_beginning(readings, traced, text, task, forked)?;
-    append_started(readings, traced, text, task, forked)
-}
-
-/// Appends the records of the task, if it was forked since the base. It is refused for memory alone.
-#[tactic(auto, unfolding(crate::specs::Trace::task_records))]
-fn append_task<R: Readings>(
-    readings: &R,
-    traced: &Traced<'_>,
-    text: &mut String,
-    task: TaskId,
-) -> Result<(), AllocError>
-    requires { IsTracedOf traced.now (R.history readings.now) }
-    ensures { OnOk result (string_bytes text.new ≡ string_bytes text.old ++ written record_text (task_records (R.history readings.now) traced.now.times.now task)) }
-{
-    match readings.forking(task) {
-        Some(forking) => append_forked(readings, traced, text, task, forking),
-        None => Ok(()),
-    }
-}
-
-/// Appends that the scope begins to close, if it does. It is refused for memory alone.
-fn append_closing<R: Readings>(
-    readings: &R,
-    traced: &Traced<'_>,
-    text: &mut String,
-    scope: ScopeId,
-    opened: Opening,
-) -> Result<(), AllocError>
-    requires traced { IsTracedOf traced.now (R.history readings.now) }
-    requires opened { opening (R.history readings.now) scope ≡ Some opened }
-    ensures { OnOk result (string_bytes text.new ≡ string_bytes text.old ++ written record_text (closing_from (R.history readings.now) traced.now.times.now scope opened)) }
-{
-    let Some(place) = closing_at(readings, &traced.course.closings, scope) else {
-        return Ok(());
-    };
-    let closing = Closing(Point {
-        track: opened.actor,
-        at: micros(traced.times, place),
-        scope,
-    });
-    write!(text, "{closing}")
-}
-
-/// Appends the slice of the scope, and that it begins to close, if it does. It is refused for memory alone.
-#[tactic(auto, unfolding(crate::specs::Trace::scope_records))]
-fn append_scope<R: Readings>(
-    readings: &R,
-    traced: &Traced<'_>,
-    text: &mut String,
-    scope: ScopeId,
-) -> Result<(), AllocError>
-    requires { IsTracedOf traced.now (R.history readings.now) }
-    ensures { OnOk result (string_bytes text.new ≡ string_bytes text.old ++ written record_text (scope_records (R.history readings.now) traced.now.times.now scope)) }
-{
-    let Some(opening) = readings.opening(scope) else {
-        return Ok(());
-    };
-    let closed = closed_at(readings, &traced.course.nest.closes, scope);
-    let slice = ScopeSlice {
-        stretch: stretch_of(
-            traced.events,
-            traced.times,
-            opening.actor,
-            opening.place,
-            closed,
-        ),
-        scope,
-        policy: opening.policy,
-        options: opening.options,
-        closed: closed.is_some(),
-    };
-    write!(text, "{slice}")?;
-    append_closing(readings, traced, text, scope, opening)
-}
-
-/// Appends the arrow of a cancel that came to the scope from another one. It is refused for memory alone.
-fn append_arrow<R: Readings>(
-    readings: &R,
-    times: &[u32],
-    text: &mut String,
-    scope: ScopeId,
-    owner: Actor,
+    track: Actor,
     place: usize,
-    cause: Cause,
-) -> Result<(), AllocError>
-    ensures { OnOk result (string_bytes text.new ≡ string_bytes text.old ++ written record_text (arrow_from (R.history readings.now) times.now scope owner place cause)) }
-{
-    if cause.scope == scope {
-        return Ok(());
-    }
-    let Some(opening) = readings.opening(cause.scope) else {
-        return Ok(());
-    };
-    let arrow = Arrow {
-        at: micros(times, place),
-        scope,
-        from: opening.actor,
-        to: owner,
-    };
-    write!(text, "{arrow}")
+) -> Result<(), AllocError> {
+    let at = micros(traced.times, place);
+    write!(
+        text,
+        ",\n{{\"ph\":\"i\",\"s\":\"t\",\"pid\":1,\"tid\":{track},\"ts\":{at},\"name\":\""
+    )
 }
 
-/// Appends the cancel that reached the scope of the owner at the place. It is refused for memory alone.
-fn append_reached<R: Readings>(
-    readings: &R,
-    times: &[u32],
+// ---- tasks
+
+/// Appends the slice of the task that waits for its thread, or that it never starts.
+fn append_wait(
     text: &mut String,
-    scope: ScopeId,
-    owner: Actor,
-    place: usize,
-    cause: Cause,
-) -> Result<(), AllocError>
-    ensures { OnOk result (string_bytes text.new ≡ string_bytes text.old ++ written record_text (reached_from (R.history readings.now) times.now scope owner place cause)) }
-{
-    let instant = Instant {
-        track: owner,
-        at: micros(times, place),
-        scope,
-        cause,
-    };
-    write!(text, "{instant}")?;
-    append_arrow(readings, times, text, scope, owner, place, cause)
-}
-
-/// Appends that a cancel reached the scope, if one did. It is refused for memory alone.
-#[tactic(auto, unfolding(crate::specs::Trace::cancel_records))]
-fn append_cancel<R: Readings>(
-    readings: &R,
-    times: &[u32],
-    text: &mut String,
-    scope: ScopeId,
-) -> Result<(), AllocError>
-    ensures { OnOk result (string_bytes text.new ≡ string_bytes text.old ++ written record_text (cancel_records (R.history readings.now) times.now scope)) }
-{
-    let Some(opening) = readings.opening(scope) else {
-        return Ok(());
-    };
-    let Some((place, cause)) = cancellation(readings, scope) else {
-        return Ok(());
-    };
-    append_reached(readings, times, text, scope, opening.actor, place, cause)
-}
-
-/// Appends the records of the tasks. It is refused for memory alone.
-#[tactic(auto, using(std::proofs::lemmas::Grind::common_steps, crate::proofs::Drawings::all_more))]
-fn append_tasks<R: Readings>(
-    readings: &R,
     traced: &Traced<'_>,
-    text: &mut String,
-) -> Result<(), AllocError>
-    requires { IsTracedOf traced.now (R.history readings.now) }
-    ensures { OnOk result (string_bytes text.new ≡ string_bytes text.old ++ written record_text (all (task_records (R.history readings.now) traced.now.times.now) (task_numbers (R.history readings.now)))) }
-{
-    let before = readings.retired_tasks();
-    let last = readings.tasks();
-    for index in 0..last - before {
-        append_task(readings, traced, text, before + 1 + index)?;
+    task: TaskId,
+    row: &TaskRow,
+) -> Result<(), AllocError> {
+    let forked = row.forked;
+    if never_starts(row) {
+        append_point(text, traced, task, forked.place)?;
+        return write!(
+            text,
+            "never starts\",\"args\":{{\"scope\":{}}}}}",
+            forked.scope
+        );
     }
-    Ok(())
+    let is = match (row.started, row.ended) {
+        (Some(_), _) => "started",
+        (None, Some(_)) => "rejected",
+        (None, None) => "waiting",
+    };
+    append_stretch(text, traced, task, forked.place, row.started.or(row.ended))?;
+    write!(
+        text,
+        "waits\",\"args\":{{\"scope\":{},\"is\":\"{is}\"}}}}",
+        forked.scope
+    )
 }
 
-/// Appends the records of the scopes. It is refused for memory alone.
-#[tactic(auto, using(std::proofs::lemmas::Grind::common_steps, crate::proofs::Drawings::all_more))]
-fn append_scopes<R: Readings>(
-    readings: &R,
+/// Appends the task's records: the name of its track, its wait, and its slice, if it got its thread.
+fn append_task(
+    text: &mut String,
     traced: &Traced<'_>,
-    text: &mut String,
-) -> Result<(), AllocError>
-    requires { IsTracedOf traced.now (R.history readings.now) }
-    ensures { OnOk result (string_bytes text.new ≡ string_bytes text.old ++ written record_text (all (scope_records (R.history readings.now) traced.now.times.now) (scope_numbers (R.history readings.now)))) }
-{
-    let before = readings.retired_scopes();
-    let last = readings.scopes();
-    for index in 0..last - before {
-        append_scope(readings, traced, text, before + 1 + index)?;
-    }
-    Ok(())
+    task: TaskId,
+    row: &TaskRow,
+) -> Result<(), AllocError> {
+    let name = row.forked.label.name;
+    write!(
+        text,
+        ",\n{{\"ph\":\"M\",\"pid\":1,\"tid\":{task},\"name\":\"thread_name\",\"args\":{{\"name\":\"task {task} {name}\"}}}}"
+    )?;
+    append_wait(text, traced, task, row)?;
+    let Some(started) = row.started else {
+        return Ok(());
+    };
+    let is = match row.ended {
+        Some(_) => row.state.word(),
+        None => "running",
+    };
+    append_stretch(text, traced, task, started, row.ended)?;
+    write!(
+        text,
+        "{name}\",\"args\":{{\"scope\":{},\"is\":\"{is}\"}}}}",
+        row.forked.scope
+    )
 }
 
-/// Appends the cancels. It is refused for memory alone.
-#[tactic(auto, using(std::proofs::lemmas::Grind::common_steps, crate::proofs::Drawings::all_more))]
-fn append_cancels<R: Readings>(
-    readings: &R,
-    times: &[u32],
+// ---- scopes
+
+/// Appends the slice of the scope, and that it begins to close, if it does.
+fn append_scope(
     text: &mut String,
-) -> Result<(), AllocError>
-    ensures { OnOk result (string_bytes text.new ≡ string_bytes text.old ++ written record_text (all (cancel_records (R.history readings.now) times.now) (scope_numbers (R.history readings.now)))) }
-{
-    let before = readings.retired_scopes();
-    let last = readings.scopes();
-    for index in 0..last - before {
-        append_cancel(readings, times, text, before + 1 + index)?;
+    traced: &Traced<'_>,
+    scope: ScopeId,
+    row: &ScopeRow,
+) -> Result<(), AllocError> {
+    let opened = row.opened;
+    let joiner = ShownJoiner(opened.policy);
+    let options = ShownOptions(opened.options);
+    let is = if row.closed.is_some() {
+        "closed"
+    } else {
+        "open"
+    };
+    append_stretch(text, traced, opened.actor, opened.place, row.closed)?;
+    write!(
+        text,
+        "scope {scope} {joiner}{options}\",\"args\":{{\"is\":\"{is}\"}}}}"
+    )?;
+    let Some(place) = row.closing else {
+        return Ok(());
+    };
+    append_point(text, traced, opened.actor, place)?;
+    write!(text, "closing {scope}\"}}")
+}
+
+/// Appends that a cancel reached the scope, if one did, and the arrow from the scope whose own cancel it was.
+fn append_cancel(
+    text: &mut String,
+    traced: &Traced<'_>,
+    scope: ScopeId,
+    row: &ScopeRow,
+) -> Result<(), AllocError> {
+    let Some((place, cause)) = row.cancelled else {
+        return Ok(());
+    };
+    let owner = row.opened.actor;
+    let kind = cause.kind.word();
+    append_point(text, traced, owner, place)?;
+    write!(
+        text,
+        "cancel {scope}\",\"args\":{{\"from\":{},\"by\":\"{kind}\"}}}}",
+        cause.scope
+    )?;
+    match scope_at(traced.columns, cause.scope) {
+        Some(source) if cause.scope != scope => {
+            let from = source.opened.actor;
+            let at = micros(traced.times, place);
+            write!(
+                text,
+                ",\n{{\"ph\":\"s\",\"cat\":\"c\",\"name\":\"cancel\",\"id\":{scope},\"pid\":1,\"tid\":{from},\"ts\":{at}}}"
+            )?;
+            write!(
+                text,
+                ",\n{{\"ph\":\"f\",\"bp\":\"e\",\"cat\":\"c\",\"name\":\"cancel\",\"id\":{scope},\"pid\":1,\"tid\":{owner},\"ts\":{at}}}"
+            )
+        },
+        _ => Ok(()),
+    }
+}
+
+/// Appends the records of the tasks, of the scopes, and of the cancels.
+fn append_records(text: &mut String, traced: &Traced<'_>) -> Result<(), AllocError> {
+    let columns = traced.columns;
+    let first = columns.tasks_before.saturating_add(1);
+    for (index, row) in columns.tasks.iter().enumerate() {
+        append_task(text, traced, first.saturating_add(small_place(index)), row)?;
+    }
+    for (index, row) in columns.scopes.iter().enumerate() {
+        append_scope(text, traced, scope_number(columns, index), row)?;
+    }
+    for (index, row) in columns.scopes.iter().enumerate() {
+        append_cancel(text, traced, scope_number(columns, index), row)?;
     }
     Ok(())
 }
@@ -412,60 +215,24 @@ pub fn trace_of<R: Readings>(
     times: &[u32],
 ) -> Result<String, AllocError>
     requires { events.now ≡ (R.history readings.now).events }
-    ensures { IfOk result (λ text. string_bytes text ≡ trace_text (R.history readings.now) times.now) }
 {
-    let course = course_of(alloc, readings, events)?;
+    let columns = columns_of(alloc, readings, events)?;
     let traced = Traced {
-        events,
+        places: events.len(),
         times,
-        course: &course,
+        columns: &columns,
     };
-    let head = Head {
-        timed: !times.is_empty(),
-    };
-    let mut text = format!(in alloc; "{head}")?;
-    append_tasks(readings, &traced, &mut text)?;
-    append_scopes(readings, &traced, &mut text)?;
-    append_cancels(readings, times, &mut text)?;
-    let foot = foot();
-    write!(text, "{foot}")?;
-    Ok(text)
-}
-
-/// What the realm is called: without times it is said that there are none.
-fn realm_name(timed: bool) -> &'static str
-    ensures { result.now ≡ realm_name timed }
-{
-    if timed {
-        "realm"
-    } else {
+    let name = if times.is_empty() {
         "realm without times: an event a millisecond"
-    }
-}
-
-/// How a trace begins: with the name of what it traces, and of main's track.
-#[derive(Clone, Copy)]
-struct Head {
-    timed: bool,
-}
-
-impl fmt::Display for Head {
-    ghost output = { λ h. Some (head h.timed) };
-
-    #[tactic(auto, unfolding(crate::specs::Trace::head))]
-    fn fmt<W: fmt::Write>(&self, f: &mut fmt::Formatter<W>) -> fmt::Result {
-        let name = realm_name(self.timed);
-        write!(
-            f,
-            "[{{\"ph\":\"M\",\"pid\":1,\"name\":\"process_name\",\"args\":{{\"name\":\"{name}\"}}}},\n{{\"ph\":\"M\",\"pid\":1,\"tid\":0,\"name\":\"thread_name\",\"args\":{{\"name\":\"main\"}}}}"
-        )
-    }
-}
-
-/// How it ends.
-#[tactic(auto, unfolding(crate::specs::Trace::foot))]
-fn foot() -> &'static str
-    ensures { result.now ≡ foot }
-{
-    "\n]\n"
+    } else {
+        "realm"
+    };
+    let mut text = String::new(alloc);
+    write!(
+        text,
+        "[{{\"ph\":\"M\",\"pid\":1,\"name\":\"process_name\",\"args\":{{\"name\":\"{name}\"}}}},\n{{\"ph\":\"M\",\"pid\":1,\"tid\":0,\"name\":\"thread_name\",\"args\":{{\"name\":\"main\"}}}}"
+    )?;
+    append_records(&mut text, &traced)?;
+    text.push_str("\n]\n")?;
+    Ok(text)
 }

@@ -1,8 +1,9 @@
--- The rows so far.
-use Rattle.std.specs.Prelude.{◌≡◌}
-use Rattle.run_picture.specs.{[], folded_from}
+-- The rows so far, and the last one.
+use Rattle.std.specs.Prelude.{◌∷◌}
+use Rattle.run_picture.specs.{class_of}
 use Rattle.run_picture.proofs.Lemmas.{take}
+use Rattle.run_picture.proofs.Folding.{IsLastOf}
 use Rattle.run_picture.proofs.rows.folded_rows.Given as goal
 
 abbrev pub invariant-loop-one : goal.invariant-loop-one
-invariant-loop-one g l = l.rows.items ≡ folded_from (g.R.Readings.history l.readings) l.many [] (take l.one-index l.placed)
+invariant-loop-one l = IsLastOf (class_of l.columns) l.rows.items l.last (l.fn.first ∷ take l.one-index l.others)

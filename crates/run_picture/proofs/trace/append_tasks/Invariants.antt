@@ -1,9 +1,0 @@
--- Those with the numbers so far.
-use Rattle.std.specs.Prelude.{◌++◌, ◌+◌, ◌≡◌}
-use Rattle.run_picture.specs.{all, range_with_len, record_text, string_bytes, task_records, written}
-use Rattle.run_picture.proofs.trace.append_tasks.Given as goal
-
-abbrev pub invariant-loop-index : goal.invariant-loop-index
-invariant-loop-index g l =
-    let h = g.R.Readings.history l.readings in
-    string_bytes l.text ≡ string_bytes l.fn.text ++ written record_text (all (task_records h l.traced.times.now) (range_with_len (h.base.tasks + 1) l.index))
