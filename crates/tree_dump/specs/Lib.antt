@@ -15,7 +15,6 @@ pub mod Once
 pub mod Awaits
 pub mod Timed
 pub mod TimedAdds
-pub mod ShowsAwaited
 pub mod Summed
 pub mod ShowsLevels
 pub mod Terms
@@ -29,7 +28,6 @@ pub use Retiring.*
 pub use RetiringText.*
 pub use Sent.*
 pub use Shows.*
-pub use ShowsAwaited.*
 pub use ShowsLevels.*
 pub use Summed.*
 unfoldable pub use TextLines.*

@@ -1,7 +1,7 @@
 -- Parts of the tree, as text, and what all that is open sums up to.
-use Rattle.std.specs.Prelude.{[], ℕ, ◌&&◌, ◌++◌, ◌+◌, Bool, List, None, Option, Some, codes, false, fold, if◌then◌else◌, is_some, min, nat_lt, not, true}
-use Rattle.tree_dump.specs.Terms.{Counts, History, LEVEL_LIMIT, Running, ScopeInfo, Stage, Sums, TreePart, Waiting, closed, counts, decimal, flat_map, info, moment, opening, option_map_or, outermost, scope_numbers, stage}
-use Rattle.tree_dump.specs.Terms.{tasks_of}
+use Rattle.std.specs.Prelude.{[], ℕ, ◌&&◌, ◌++◌, ◌+◌, Bool, List, None, Option, Some, codes, false, fold, if◌then◌else◌, is_some, min, not, true}
+use Rattle.tree_dump.specs.Terms.{Counts, History, LEVEL_LIMIT, Running, ScopeInfo, Stage, Sums, TreePart, Waiting, closed, counts, decimal, filter, flat_map, info, is_unsettled, moment, opening}
+use Rattle.tree_dump.specs.Terms.{option_map_or, outermost, scope_numbers, settled, stage, task_numbers}
 use Rattle.tree_dump.specs.{Ages.Clock, TextLines.moment_line, TextTree.nested, TextTree.scope_line, TextTree.task_line, TextTree.tree_by}
 use Rattle.tree_dump.specs.declared.parts.TreePart.TheVariants as part
 
@@ -52,17 +52,23 @@ waits _ = false
 unfoldable pub awaited_task : Clock → History → ℕ → List ℕ
 awaited_task c h k = if waits (stage h k) then task_line c h 1 k else []
 
--- a scope with those of its tasks, if there are such
+-- a scope, and below it its tasks that wait or run, in fork order
 abbrev pub awaited_lines : Clock → History → ScopeInfo → List ℕ
-awaited_lines c h i = if nat_lt 0 ((counts h i.scope).waiting + (counts h i.scope).running) then scope_line c h 0 i ++ flat_map (awaited_task c h) (tasks_of h i.scope) else []
+awaited_lines c h i = scope_line c h 0 i ++ flat_map (task_line c h 1) (filter (is_unsettled h i.scope) (task_numbers h))
 
--- scope s, if it is not closed and waits for tasks
 unfoldable pub awaited_scope : Clock → History → ℕ → List ℕ
-awaited_scope c h s = if closed h s then [] else option_map_or (awaited_lines c h) (info h s) []
+awaited_scope c h s = option_map_or (awaited_lines c h) (info h s) []
 
--- all of them, in the order of their openings: the oldest first
+-- scope s is not closed, and a task of it waits or runs
+abbrev pub is_awaiting : History → ℕ → Bool
+is_awaiting h s = not (closed h s) && not (settled h s)
+
+abbrev pub awaited_if : Clock → History → ℕ → List ℕ
+awaited_if c h s = if is_awaiting h s then awaited_scope c h s else []
+
+-- all such scopes, each once, in the order of their openings: the oldest first
 abbrev pub awaited : Clock → History → List ℕ
-awaited c h = flat_map (awaited_scope c h) (scope_numbers h)
+awaited c h = flat_map (awaited_scope c h) (filter (is_awaiting h) (scope_numbers h))
 
 -- ---- some levels
 
