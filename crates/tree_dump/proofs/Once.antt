@@ -86,7 +86,7 @@ pub no_info : (h : History) (s : ℕ) → opening h s ≡ None → info h s ≡ 
 unfolding info
 no_info h s is = ap (option_map (info_of h s)) is
 
-no_place : (h : History) (n depth t : ℕ) → times t (lines_at h n depth None) ≡ 0
+pub no_place : (h : History) (n depth t : ℕ) → times t (lines_at h n depth None) ≡ 0
 no_place h zero depth t = refl
 no_place h (suc n) depth t = refl
 
@@ -258,65 +258,6 @@ module _ (L : Limits) (h : History) (legal : Legal L h) where
           unit_most true = omega arith
           unit_most false = omega arith
 
--- ---- at least once
-
-module _ (L : Limits) (c : Clock) (h : History) (legal : Legal L h) where
-  -- what the walk says of the scope, so many levels down, is among the lines
-  abbrev Counts : ℕ → ℕ → ℕ → Type 0
-  Counts n depth s = (z : ℕ) → times z (lines_at h (suc n) depth (Some s)) ≤ times z (tree_lines h)
-
-  from_root : (s : ℕ) → outermost h 0 ≡ Some s → Counts 15 0 s
-  from_root s at z = let same : times z (tree_lines h) ≡ times z (lines_at h 16 0 (Some s)) = ap (λ o. times z (lines_at h 16 0 o)) at in omega (arith, same)
-
-  to_inner : (n depth s t : ℕ) (i : ScopeInfo) → info h s ≡ Some i → inner h s ≡ Some t → Counts (suc n) depth s → Counts n (depth + 1) t
-  to_inner n depth s t i is at within z =
-      let o = opened_info h s i is in
-      let parts = split h (suc n) depth s z o.0 o.1 in
-      let all = within z in
-      let same : times z (lines_at h (suc n) (depth + 1) (inner h s)) ≡ times z (lines_at h (suc n) (depth + 1) (Some t)) = ap (λ x. times z (lines_at h (suc n) (depth + 1) x)) at in
-      omega (arith, parts, all, same)
-
-  to_under : (n depth s t index k : ℕ) (i : ScopeInfo) → info h s ≡ Some i → slice_get (tasks_of h s) index ≡ Some k → outermost h k ≡ Some t → Counts (suc n) depth s → Counts n (depth + 1 + 1) t
-  to_under n depth s t index k i is listed at within z =
-      let o = opened_info h s i is in
-      let parts = split h (suc n) depth s z o.0 o.1 in
-      let all = within z in
-      let one = sum_least (λ x. times z (lines_at h (suc n) (depth + 1 + 1) (outermost h x))) (tasks_of h s) index k listed in
-      let same : times z (lines_at h (suc n) (depth + 1 + 1) (outermost h k)) ≡ times z (lines_at h (suc n) (depth + 1 + 1) (Some t)) = ap (λ x. times z (lines_at h (suc n) (depth + 1 + 1) x)) at in
-      omega (arith, parts, all, one, same)
-
-  once : (s : ℕ) (o : Opening) → opening h s ≡ Some o → closed h s ≡ false → times s (tree_lines h) ≡ 1
-  once s o is live =
-      let it = reached L c h legal Counts from_root to_inner to_under (suc s) s o (omega arith) is live in
-      let all = it.3 s in
-      let parts = split h it.0 it.1 s s o is in
-      let here : unit (s == s) ≡ 1 = ap unit (eq-eqb s s refl) in
-      let most = at_root_most s in
-      omega (arith, all, parts, here, most)
-    where
-      at_root_most : (t : ℕ) → times t (tree_lines h) ≤ 1
-      at_root_most t = task_most L h legal 16 t 0 0 (most_once L h legal 16 t)
-
-  never : (s : ℕ) → closed h s ≡ true → times s (tree_lines h) ≡ 0
-  never s ended = by (some_or_none (times s (tree_lines h)))
-    where
-      root : (o : Option ℕ) → outermost h 0 ≡ o → 0 < times s (lines_at h 16 0 o) → ⊥
-      root None at some = let none = no_place h 16 0 s in omega (arith, none, some)
-      root (Some p) at some =
-          let it = shows_below L h legal 16 s 0 p (is_next h 0 0 p (outermost_is h 0 ∙ at)).unclosed.unclosed some in
-          let fails : true ≡ false = sym ended ∙ it.1 in absurd cc
-
-      by : (0 < times s (tree_lines h)) ⊎ (times s (tree_lines h) ≡ 0) → times s (tree_lines h) ≡ 0
-      by (inl some) = absurd (root (outermost h 0) refl some)
-      by (inr none) = none
-
-  scopes_once : (s : ℕ) (o : Opening) → opening h s ≡ Some o → times s (tree_lines h) ≡ cond (closed h s) 0 1
-  scopes_once s o is = by (closed h s) refl
-    where
-      by : (b : Bool) → closed h s ≡ b → times s (tree_lines h) ≡ cond b 0 1
-      by true ended = never s ended
-      by false live = once s o is live
-
 -- ---- tasks
 
 abbrev pub times_task : ℕ → List Line → ℕ
@@ -363,26 +304,3 @@ as_its_scope h k f is (suc n) depth (Some s) = by (opening h s) refl (as_its_sco
         let inside = same (depth + 1) (inner h s) in
         let parts = split h n depth s f.scope o opened in
         omega (arith, here, one, both, tasks, apart, listed, under, inside, parts)
-
--- ---- the tree
-
-root_lines : (c : Clock) (h : History) (o : Option ℕ) → (first : List ℕ) × (open_text c h o ≡ first ++ flat_map (line_text c h) (lines_at h 16 0 o))
-root_lines c h None = (codes "nothing is open\n", sym (append-nil (codes "nothing is open\n")))
-root_lines c h (Some s) = ([], sym (lines_written c h 16 0 (Some s)))
-
-pub tree_is : (L : Limits) (c : Clock) (h : History) → Legal L h → IsTreeOf c h (tree_lines h)
-unfolding tree_by
-tree_is L c h legal =
-    let it = root_lines c h (outermost h 0) in
-    record {
-      first = moment_line (moment h) c.now c.main ++ it.0;
-      text = ap (λ l. moment_line (moment h) c.now c.main ++ l) it.1 ∙ sym (append_assoc (moment_line (moment h) c.now c.main) it.0 (flat_map (line_text c h) (tree_lines h)));
-      scopes = λ s o is. scopes_once L c h legal s o is;
-      tasks = λ k f is. as_its_scope h k f is 16 0 (outermost h 0) ∙ scope_of_task k f is;
-    }
-  where
-    scope_of_task : (k : ℕ) (f : Forking) → forking h k ≡ Some f → times f.scope (tree_lines h) ≡ cond (closed h f.scope) 0 1
-    scope_of_task k f is = let it = forked_opened L h k f legal is in scopes_once L c h legal f.scope it.opened it.is
-
-pub shows_once : TreeShowsEachOnce
-shows_once L c h legal = (tree_lines h, tree_is L c h legal)

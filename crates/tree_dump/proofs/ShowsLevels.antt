@@ -5,7 +5,7 @@ use Rattle.tree_dump.specs.{Clock, Forking, History, LEVEL_LIMIT, Legal, LevelsS
 use Rattle.tree_dump.specs.{info, info_of, inner, is_task_of, is_within, level, levels_from, line_text, opening, option_map_or, outermost, parent, task_numbers, tasks_of, with_sums}
 use Rattle.tree_dump.proofs.Lemmas.{cases_lt, filter-append, forked_opened, le-min, level_by_parent, ltb-false, ltb-true, min-eq_left, min-le_left, min-le_right, outermost_is, task_there}
 use Rattle.tree_dump.proofs.{Insides.inner_parent, Insides.is_next, Insides.outermost_parent, Lying.lying, Once.as_its_scope, Once.info_is, Once.lines_at, Once.lines_written, Once.no_info, Once.of_scope, Once.of_task}
-use Rattle.tree_dump.proofs.{Once.tree_is, Once.tree_lines}
+use Rattle.tree_dump.proofs.{Once.tree_lines, Lying.tree_is}
 
 -- the smaller of two
 record IsLeast (r a b : ℕ) : Type 0 where
