@@ -15,7 +15,6 @@ pub mod Once
 pub mod Awaits
 pub mod Timed
 pub mod TimedAdds
-pub mod Summed
 pub mod ShowsLevels
 pub mod Terms
 unfoldable pub use Terms.*
@@ -29,7 +28,6 @@ pub use RetiringText.*
 pub use Sent.*
 pub use Shows.*
 pub use ShowsLevels.*
-pub use Summed.*
 unfoldable pub use TextLines.*
 pub use TextTree.{line, scope_line, scope_lines, task_ages, task_lines, tree_text}
 unfoldable pub use TextTree.{aged_scope, task_line, tasks_lines, tree_by}

@@ -1,7 +1,7 @@
 -- Parts of the tree, as text, and what all that is open sums up to.
-use Rattle.std.specs.Prelude.{[], ℕ, ◌&&◌, ◌++◌, ◌+◌, Bool, List, None, Option, Some, codes, false, fold, if◌then◌else◌, is_some, min, not, true}
-use Rattle.tree_dump.specs.Terms.{Counts, History, LEVEL_LIMIT, Running, ScopeInfo, Stage, Sums, TreePart, Waiting, closed, counts, decimal, filter, flat_map, info, is_unsettled, moment, opening}
-use Rattle.tree_dump.specs.Terms.{option_map_or, outermost, scope_numbers, settled, stage, task_numbers}
+use Rattle.std.specs.Prelude.{[], ℕ, ◌&&◌, ◌++◌, ◌+◌, Bool, List, None, Option, Some, codes, false, if◌then◌else◌, is_some, length, min, not, true}
+use Rattle.tree_dump.specs.Terms.{Counts, Finished, History, LEVEL_LIMIT, Never, Running, ScopeInfo, Stage, Sums, TreePart, Waiting, closed, counts, decimal, filter, flat_map, info, is_stage, is_unsettled, moment, opening}
+use Rattle.tree_dump.specs.Terms.{option_map_or, outermost, scope_numbers, settled, stage, task_numbers, tasks_of}
 use Rattle.tree_dump.specs.{Ages.Clock, TextLines.moment_line, TextTree.nested, TextTree.scope_line, TextTree.task_line, TextTree.tree_by}
 use Rattle.tree_dump.specs.declared.parts.TreePart.TheVariants as part
 
@@ -28,9 +28,25 @@ with_counts u c = record {
 unfoldable pub with_scope : History → Sums → ℕ → Sums
 with_scope h u s = if closed h s then u else option_map_or (λ i. with_counts u (counts h i.scope)) (info h s) u
 
--- how many scopes are not closed, and how many of their tasks are at each stage
+-- the scopes that are not closed, of these
+abbrev pub unclosed : History → List ℕ → List ℕ
+unclosed h scopes = filter (λ s. not (closed h s)) scopes
+
+-- the tasks of these scopes at a stage
+abbrev pub tasks_at : History → Stage → List ℕ → List ℕ
+tasks_at h x scopes = filter (λ k. is_stage x (stage h k)) (flat_map (tasks_of h) scopes)
+
+-- how many scopes are not closed, and how many tasks of those are at each stage
 abbrev pub sums : History → Sums
-sums h = fold (with_scope h) no_sums (scope_numbers h)
+sums h =
+    let open_scopes = unclosed h (scope_numbers h) in
+    record {
+      scopes = length open_scopes;
+      waiting = length (tasks_at h Waiting open_scopes);
+      running = length (tasks_at h Running open_scopes);
+      finished = length (tasks_at h Finished open_scopes);
+      never = length (tasks_at h Never open_scopes);
+    }
 
 abbrev pub awaited_sums : Sums → List ℕ
 awaited_sums u = codes "open in all: scopes " ++ decimal u.scopes ++ codes ", tasks waiting " ++ decimal u.waiting ++ codes ", running " ++ decimal u.running

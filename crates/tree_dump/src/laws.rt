@@ -1,6 +1,6 @@
 //! Laws of dumps and trees. The functions do nothing: their contracts are the laws.
 
-ghost use Rattle.tree_dump.specs.{DumpStays, LevelsShow, RootLevelsShow, SumsCount, TimedAdds.TimedAdds, TreeAwaits, TreeShowsEach, TreeShowsEachOnce, TreeStays};
+ghost use Rattle.tree_dump.specs.{DumpStays, LevelsShow, RootLevelsShow, TimedAdds.TimedAdds, TreeAwaits, TreeShowsEach, TreeShowsEachOnce, TreeStays};
 
 /// A retirement changes nothing that a dump or a tree shows. If a list of commands without its retirements meets no
 /// limit, and no command behind an accepted retirement names a discarded number, then what it leaves is shown the same
@@ -33,12 +33,6 @@ pub fn tree_shows_each_once()
 #[tactic(auto, using(crate::proofs::Awaits::tree_awaits))]
 pub fn tree_awaits()
     ensures { TreeAwaits }
-{}
-
-/// The sums of a legal history say how many scopes are not closed, and how many tasks of those scopes are at each stage.
-#[tactic(auto, using(crate::proofs::Summed::sums_count))]
-pub fn sums_count()
-    ensures { SumsCount }
 {}
 
 /// What is shown of some levels of the tree of a legal history. The whole tree from that scope on has one line for each

@@ -75,7 +75,7 @@ fn with_scope<R: Readings>(readings: &R, sums: Sums, scope: ScopeId) -> Sums
     }
 }
 
-/// What all that is open sums up to.
+/// What all that is open sums up to. There are less than 2^32 scopes and tasks.
 #[tactic(auto, using(std::proofs::lemmas::Grind::common_steps, crate::proofs::Parted::sums_more))]
 fn sums_of<R: Readings>(readings: &R) -> Sums
     ensures { result ≡ sums (R.history readings.now) }
@@ -87,6 +87,7 @@ fn sums_of<R: Readings>(readings: &R) -> Sums
         finished: 0,
         never: 0,
     };
+    let _tasks = readings.tasks();
     let before = readings.retired_scopes();
     let last = readings.scopes();
     for index in 0..last - before {
