@@ -1,11 +1,11 @@
 -- What the tree shows of a scope is all that lies in it and is not closed.
 use Rattle.std.proofs.lemmas.Option.{same_Some}
 use Rattle.std.proofs.Common.{[], ℕ, ◌&&◌, ◌++◌, ◌+◌, ◌<◌, ◌==◌, ◌||◌, ◌∙◌, ◌≡◌, ◌≤◌, ◌⊎◌, Bool, List, None, Option, Some, ap, append_assoc, arith, codes, cond, false, inl, inr, not, refl, slice_get, subst, suc, sym, true, zero}
-use Rattle.tree_dump.specs.{Clock, Forking, History, IsTreeOf, Legal, Limits, Line, Opening, ScopeInfo, TextTree.open_text, TreeShowsEachOnce, chain_by, closed, flat_map, forking, info, inner, lies_in, line_text, list_any}
-use Rattle.tree_dump.specs.{moment, moment_line, onward, opening, outermost, parent, tasks_of, tree_by}
+use Rattle.tree_dump.specs.{Clock, Forking, History, IsTreeOf, Legal, Limits, Line, Opening, ScopeInfo, TextTree.nested, TextTree.open_text, TreeShowsEachOnce, chain_by, closed, flat_map, forking, info, inner, lies_in, line_text, lines_at, list_any}
+use Rattle.tree_dump.specs.{moment, moment_line, onward, opening, outermost, parent, tasks_of, tree_by, tree_lines}
 use Rattle.tree_dump.proofs.Lemmas.{append-nil, cases_eq, chain_law, eq-eqb, forked_opened, ne_eqb, outermost_is, parent_inward, parent_smaller, task_there}
 use Rattle.tree_dump.proofs.{Insides.OnChain, Insides.first_up, Insides.inner_parent, Insides.is_next, Insides.itself, Insides.outermost_parent, Insides.root_parent, Insides.up, Listed.some_or_none, Listed.sum_least, Listed.unit}
-use Rattle.tree_dump.proofs.{Once.as_its_scope, Once.lines_at, Once.lines_written, Once.listed_task, Once.most_once, Once.no_place, Once.shows_below, Once.split, Once.times, Once.tree_lines, Shows.opened_info, Shows.reached}
+use Rattle.tree_dump.proofs.{Once.as_its_scope, Once.listed_task, Once.most_once, Once.no_place, Once.shows_below, Once.split, Once.times, Shows.opened_info, Shows.reached}
 
 module _ (L : Limits) (h : History) (legal : Legal L h) (s : ℕ) where
   -- ---- the chain
@@ -209,8 +209,9 @@ module _ (L : Limits) (c : Clock) (h : History) (legal : Legal L h) where
               ap (λ x. unit (not x && lies_in h root t)) live ∙ ap unit (from_chain L h legal root (suc t) t (omega arith) (subst (OnChain h t) one it.3))
 
 root_lines : (c : Clock) (h : History) (o : Option ℕ) → (first : List ℕ) × (open_text c h o ≡ first ++ flat_map (line_text c h) (lines_at h 16 0 o))
+unfolding nested
 root_lines c h None = (codes "nothing is open\n", sym (append-nil (codes "nothing is open\n")))
-root_lines c h (Some s) = ([], sym (lines_written c h 16 0 (Some s)))
+root_lines c h (Some s) = ([], refl)
 
 pub tree_is : (L : Limits) (c : Clock) (h : History) → Legal L h → IsTreeOf c h (tree_lines h)
 unfolding tree_by
@@ -227,4 +228,4 @@ tree_is L c h legal =
     scope_of_task k f is = let it = forked_opened L h k f legal is in counted L c h legal f.scope it.opened it.is
 
 pub shows_once : TreeShowsEachOnce
-shows_once L c h legal = (tree_lines h, tree_is L c h legal)
+shows_once L c h legal = tree_is L c h legal

@@ -1,58 +1,13 @@
 -- The tree shows each scope that is not closed, and each of its tasks, exactly once.
-use Rattle.std.proofs.Common.{[], ℕ, ◌++◌, ◌+◌, ◌<◌, ◌==◌, ◌∙◌, ◌∷◌, ◌≡◌, ◌≤◌, ◌⊎◌, Bool, List, None, Option, Some, ap, append_assoc, arith, codes, cond, count_by, false, inl, inr, option_map, refl, slice_get, subst, suc, sum_by}
+use Rattle.std.proofs.Common.{[], ℕ, ◌++◌, ◌+◌, ◌<◌, ◌==◌, ◌∙◌, ◌∷◌, ◌≡◌, ◌≤◌, ◌⊎◌, Bool, List, None, Option, Some, ap, arith, cond, count_by, false, inl, inr, option_map, refl, slice_get, subst, suc, sum_by}
 use Rattle.std.proofs.Common.{sym, true, zero}
 use Rattle.scope_rules.proofs.Forkings.{IsTask}
-use Rattle.tree_dump.specs.{Clock, Forking, History, IsTreeOf, Legal, Limits, Line, OfScope, OfTask, Opening, ScopeInfo, TextTree.nested, TextTree.open_text, TreeShowsEachOnce, before, closed, flat_map, forked_count, forking}
-use Rattle.tree_dump.specs.{info, info_of, inner, is_of_scope, is_of_task, is_task_of, line_text, moment, moment_line, opening, option_and_then, option_map_or, outermost, parent, scope_line, scope_lines, task_line, task_lines}
-use Rattle.tree_dump.specs.{task_numbers, tasks_lines, tasks_of, tree_by}
-use Rattle.tree_dump.proofs.Lemmas.{HasUnclosed, append-nil, cases_eq, eq-eqb, flat_map-append, forked_after, forked_opened, forking_row, forking_since, forking_within, length-take, main_unforked, ne_eqb, opening_row}
+use Rattle.tree_dump.specs.{Forking, History, Legal, Limits, Line, OfScope, OfTask, Opening, ScopeInfo, before, closed, flat_map, forked_count, forking, info, info_of, inner, is_of_scope, is_of_task, is_task_of, lines_at}
+use Rattle.tree_dump.specs.{of_scope, of_task, opening, option_map_or, outermost, parent, task_numbers, tasks_of}
+use Rattle.tree_dump.proofs.Lemmas.{HasUnclosed, cases_eq, eq-eqb, forked_after, forking_row, forking_since, forking_within, length-take, main_unforked, ne_eqb, opening_row}
 use Rattle.tree_dump.proofs.Lemmas.{opening_since, opening_within, outermost_is, parent_smaller, running_forked, sum_by-append, sum_by-cons, task_there}
 use Rattle.tree_dump.proofs.{Insides.OnChain, Insides.inner_parent, Insides.is_next, Insides.itself, Insides.only_one, Insides.outermost_parent, Insides.smaller, Insides.up, Listed.count_listed, Listed.listed_holds}
-use Rattle.tree_dump.proofs.{Listed.some_or_none, Listed.sum_both, Listed.sum_least, Listed.sum_most, Listed.sum_same, Listed.sum_some, Listed.unit, Shows.opened_info, Shows.reached}
-
--- ---- the lines of the tree
-
-abbrev pub of_task : History → (ℕ → Option ℕ → List Line) → ℕ → ℕ → List Line
-of_task h inside depth k = OfTask depth k ∷ inside (depth + 1) (outermost h k)
-
-abbrev pub of_scope : History → (ℕ → Option ℕ → List Line) → ℕ → ScopeInfo → List Line
-of_scope h inside depth i = OfScope depth i ∷ (flat_map (of_task h inside (depth + 1)) (tasks_of h i.scope) ++ inside (depth + 1) (inner h i.scope))
-
-abbrev pub lines_at : History → ℕ → ℕ → Option ℕ → List Line
-lines_at h zero depth place = []
-lines_at h (suc n) depth place = option_map_or (of_scope h (lines_at h n) depth) (option_and_then (info h) place) []
-
--- they are written as the tree is
-abbrev Writes : Clock → History → (ℕ → Option ℕ → List Line) → (ℕ → Option ℕ → List ℕ) → Type 0
-Writes c h inside text = (depth : ℕ) (place : Option ℕ) → flat_map (line_text c h) (inside depth place) ≡ text depth place
-
-tasks_written : (c : Clock) (h : History) (inside : ℕ → Option ℕ → List Line) (text : ℕ → Option ℕ → List ℕ) → Writes c h inside text → (depth : ℕ) (ks : List ℕ) → flat_map (line_text c h) (flat_map (of_task h inside depth) ks) ≡ flat_map (task_lines c h text depth) ks
-tasks_written c h inside text writes depth [] = refl
-tasks_written c h inside text writes depth (k ∷ ks) =
-    flat_map-append (line_text c h) (of_task h inside depth k) (flat_map (of_task h inside depth) ks)
-    ∙ (ap (λ l. (task_line c h depth k ++ l) ++ flat_map (line_text c h) (flat_map (of_task h inside depth) ks)) (writes (depth + 1) (outermost h k))
-    ∙ ap (λ l. task_lines c h text depth k ++ l) (tasks_written c h inside text writes depth ks))
-
-scope_written : (c : Clock) (h : History) (inside : ℕ → Option ℕ → List Line) (text : ℕ → Option ℕ → List ℕ) → Writes c h inside text → (depth : ℕ) (i : ScopeInfo) → flat_map (line_text c h) (of_scope h inside depth i) ≡ scope_lines c h text depth i
-unfolding tasks_lines
-scope_written c h inside text writes depth i =
-    ap (λ l. scope_line c h depth i ++ l)
-    (flat_map-append (line_text c h) (flat_map (of_task h inside (depth + 1)) (tasks_of h i.scope)) (inside (depth + 1) (inner h i.scope))
-    ∙ (ap (λ l. l ++ flat_map (line_text c h) (inside (depth + 1) (inner h i.scope))) (tasks_written c h inside text writes (depth + 1) (tasks_of h i.scope))
-    ∙ ap (λ l. flat_map (task_lines c h text (depth + 1)) (tasks_of h i.scope) ++ l) (writes (depth + 1) (inner h i.scope))))
-
-pub lines_written : (c : Clock) (h : History) (n : ℕ) → Writes c h (lines_at h n) (nested c h n)
-unfolding nested
-lines_written c h zero depth place = refl
-lines_written c h (suc n) depth place = by (option_and_then (info h) place) (lines_written c h n)
-  where
-    by : (o : Option ScopeInfo) → Writes c h (lines_at h n) (nested c h n) → flat_map (line_text c h) (option_map_or (of_scope h (lines_at h n) depth) o []) ≡ option_map_or (scope_lines c h (nested c h n) depth) o []
-    by None writes = refl
-    by (Some i) writes = scope_written c h (lines_at h n) (nested c h n) writes depth i
-
--- all lines of the tree
-abbrev pub tree_lines : History → List Line
-tree_lines h = lines_at h 16 0 (outermost h 0)
+use Rattle.tree_dump.proofs.{Listed.some_or_none, Listed.sum_both, Listed.sum_most, Listed.sum_same, Listed.sum_some, Listed.unit}
 
 -- ---- how often a scope has a line
 
