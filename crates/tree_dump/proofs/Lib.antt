@@ -14,7 +14,7 @@ pub mod Awaits
 mod TimedAdds
 mod Opened
 mod Summed
-mod ShowsAwaited
+mod Awaiting
 mod Lying
 mod ShowsLevels
 mod Stamped

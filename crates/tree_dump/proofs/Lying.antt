@@ -1,9 +1,11 @@
 -- What the tree shows of a scope is all that lies in it and is not closed.
-use Rattle.std.proofs.Common.{ℕ, ◌&&◌, ◌+◌, ◌<◌, ◌==◌, ◌||◌, ◌∙◌, ◌≡◌, ◌≤◌, ◌⊎◌, Bool, List, None, Option, Some, ap, arith, cond, false, inl, inr, not, refl, slice_get, subst, suc, sym, true, zero}
-use Rattle.tree_dump.specs.{Clock, History, Legal, Limits, Line, Opening, ScopeInfo, chain_by, closed, info, inner, lies_in, list_any, onward, opening, outermost, parent, tasks_of}
-use Rattle.tree_dump.proofs.Lemmas.{cases_eq, chain_law, eq-eqb, ne_eqb, outermost_is, parent_inward, parent_smaller, task_there}
+use Rattle.std.proofs.lemmas.Option.{same_Some}
+use Rattle.std.proofs.Common.{[], ℕ, ◌&&◌, ◌++◌, ◌+◌, ◌<◌, ◌==◌, ◌||◌, ◌∙◌, ◌≡◌, ◌≤◌, ◌⊎◌, Bool, List, None, Option, Some, ap, append_assoc, arith, codes, cond, false, inl, inr, not, refl, slice_get, subst, suc, sym, true, zero}
+use Rattle.tree_dump.specs.{Clock, Forking, History, IsTreeOf, Legal, Limits, Line, Opening, ScopeInfo, TextTree.nested, TextTree.open_text, TreeShowsEachOnce, chain_by, closed, flat_map, forking, info, inner, lies_in, line_text, lines_at, list_any}
+use Rattle.tree_dump.specs.{moment, moment_line, onward, opening, outermost, parent, tasks_of, tree_by, tree_lines}
+use Rattle.tree_dump.proofs.Lemmas.{append-nil, cases_eq, chain_law, eq-eqb, forked_opened, ne_eqb, outermost_is, parent_inward, parent_smaller, task_there}
 use Rattle.tree_dump.proofs.{Insides.OnChain, Insides.first_up, Insides.inner_parent, Insides.is_next, Insides.itself, Insides.outermost_parent, Insides.root_parent, Insides.up, Listed.some_or_none, Listed.sum_least, Listed.unit}
-use Rattle.tree_dump.proofs.{Once.lines_at, Once.listed_task, Once.most_once, Once.shows_below, Once.split, Once.times, Shows.opened_info, Shows.reached}
+use Rattle.tree_dump.proofs.{Once.as_its_scope, Once.listed_task, Once.most_once, Once.no_place, Once.shows_below, Once.split, Once.times, Shows.opened_info, Shows.reached}
 
 module _ (L : Limits) (h : History) (legal : Legal L h) (s : ℕ) where
   -- ---- the chain
@@ -166,3 +168,64 @@ module _ (L : Limits) (h : History) (legal : Legal L h) (s : ℕ) where
       by true ended d lies = none (λ some. let it = shows_below L h legal 16 t 0 s stands some in let fails : true ≡ false = sym ended ∙ it.1 in absurd cc)
       by false live false lies = none (λ some. let it = shows_below L h legal 16 t 0 s stands some in let fails : false ≡ true = sym lies ∙ from_chain (suc t) t (omega arith) it.0 in absurd cc)
       by false live true lies = let some = has_line c t o is live (to_chain (suc t) t (omega arith) lies) in omega (arith, some, most)
+
+-- ---- the tree
+
+module _ (L : Limits) (c : Clock) (h : History) (legal : Legal L h) where
+  -- the scope is not closed, and lies in main's outermost one
+  abbrev IsInside : ℕ → ℕ → ℕ → Type 0
+  IsInside n depth t = (root : ℕ) × (outermost h 0 ≡ Some root) × (closed h t ≡ false) × OnChain h t root
+
+  from_main : (t : ℕ) → outermost h 0 ≡ Some t → IsInside 15 0 t
+  from_main t at = (t, at, (is_next h 0 0 t (outermost_is h 0 ∙ at)).unclosed.unclosed, itself)
+
+  inner_inside : (n depth p t : ℕ) (i : ScopeInfo) → info h p ≡ Some i → inner h p ≡ Some t → IsInside (suc n) depth p → IsInside n (depth + 1) t
+  inner_inside n depth p t i is at it =
+      let o = opened_info h p i is in
+      let next = inner_parent L h legal p t o.0 o.1 it.2 at in
+      (it.0, it.1, next.1.unclosed.unclosed, below_it L h legal it.0 t p it.3 next.0)
+
+  under_inside : (n depth p t index k : ℕ) (i : ScopeInfo) → info h p ≡ Some i → slice_get (tasks_of h p) index ≡ Some k → outermost h k ≡ Some t → IsInside (suc n) depth p → IsInside n (depth + 1 + 1) t
+  under_inside n depth p t index k i is listed at it =
+      let task = task_there h p k (listed_task L h legal p index k listed) in
+      (it.0, it.1, (is_next h k 0 t (outermost_is h k ∙ at)).unclosed.unclosed, below_it L h legal it.0 t p it.3 (outermost_parent L h legal k t task.forked task.is at ∙ ap Some task.of))
+
+  counted : (t : ℕ) (o : Opening) → opening h t ≡ Some o → times t (tree_lines h) ≡ cond (closed h t) 0 1
+  counted t o is = by (outermost h 0) refl (closed h t) refl
+    where
+      inside : closed h t ≡ false → IsInside 0 0 t
+      inside live = (reached L c h legal IsInside from_main inner_inside under_inside (suc t) t o (omega arith) is live).3
+
+      by : (r : Option ℕ) → outermost h 0 ≡ r → (b : Bool) → closed h t ≡ b → times t (lines_at h 16 0 r) ≡ cond b 0 1
+      by None at true ended = no_place h 16 0 t
+      by None at false live = let it = (inside live).1 in absurd cc
+      by (Some root) at b same = lying L h legal root c (is_next h 0 0 root (outermost_is h 0 ∙ at)).unclosed.unclosed t o is ∙ each b same
+        where
+          each : (d : Bool) → closed h t ≡ d → unit (not (closed h t) && lies_in h root t) ≡ cond d 0 1
+          each true ended = ap (λ x. unit (not x && lies_in h root t)) ended
+          each false live =
+              let it = inside live in
+              let one : it.0 ≡ root = same_Some it.0 root (sym it.1 ∙ at) in
+              ap (λ x. unit (not x && lies_in h root t)) live ∙ ap unit (from_chain L h legal root (suc t) t (omega arith) (subst (OnChain h t) one it.3))
+
+root_lines : (c : Clock) (h : History) (o : Option ℕ) → (first : List ℕ) × (open_text c h o ≡ first ++ flat_map (line_text c h) (lines_at h 16 0 o))
+unfolding nested
+root_lines c h None = (codes "nothing is open\n", sym (append-nil (codes "nothing is open\n")))
+root_lines c h (Some s) = ([], refl)
+
+pub tree_is : (L : Limits) (c : Clock) (h : History) → Legal L h → IsTreeOf c h (tree_lines h)
+unfolding tree_by
+tree_is L c h legal =
+    let it = root_lines c h (outermost h 0) in
+    record {
+      first = moment_line (moment h) c.now c.main ++ it.0;
+      text = ap (λ l. moment_line (moment h) c.now c.main ++ l) it.1 ∙ sym (append_assoc (moment_line (moment h) c.now c.main) it.0 (flat_map (line_text c h) (tree_lines h)));
+      scopes = λ s o is. counted L c h legal s o is;
+      tasks = λ k f is. as_its_scope h k f is 16 0 (outermost h 0) ∙ scope_of_task k f is;
+    }
+  where
+    scope_of_task : (k : ℕ) (f : Forking) → forking h k ≡ Some f → times f.scope (tree_lines h) ≡ cond (closed h f.scope) 0 1
+    scope_of_task k f is = let it = forked_opened L h k f legal is in counted L c h legal f.scope it.opened it.is
+
+pub shows_once : TreeShowsEachOnce
+shows_once L c h legal = tree_is L c h legal

@@ -1,58 +1,13 @@
 -- The tree shows each scope that is not closed, and each of its tasks, exactly once.
-use Rattle.std.proofs.Common.{[], ℕ, ◌++◌, ◌+◌, ◌<◌, ◌==◌, ◌∙◌, ◌∷◌, ◌≡◌, ◌≤◌, ◌⊎◌, Bool, List, None, Option, Some, ap, append_assoc, arith, codes, cond, count_by, false, inl, inr, option_map, refl, slice_get, subst, suc, sum_by}
+use Rattle.std.proofs.Common.{[], ℕ, ◌++◌, ◌+◌, ◌<◌, ◌==◌, ◌∙◌, ◌∷◌, ◌≡◌, ◌≤◌, ◌⊎◌, Bool, List, None, Option, Some, ap, arith, cond, count_by, false, inl, inr, option_map, refl, slice_get, subst, suc, sum_by}
 use Rattle.std.proofs.Common.{sym, true, zero}
 use Rattle.scope_rules.proofs.Forkings.{IsTask}
-use Rattle.tree_dump.specs.{Clock, Forking, History, IsTreeOf, Legal, Limits, Line, OfScope, OfTask, Opening, ScopeInfo, TextTree.nested, TextTree.open_text, TreeShowsEachOnce, before, closed, flat_map, forked_count, forking}
-use Rattle.tree_dump.specs.{info, info_of, inner, is_of_scope, is_of_task, is_task_of, line_text, moment, moment_line, opening, option_and_then, option_map_or, outermost, parent, scope_line, scope_lines, task_line, task_lines}
-use Rattle.tree_dump.specs.{task_numbers, tasks_lines, tasks_of, tree_by}
-use Rattle.tree_dump.proofs.Lemmas.{HasUnclosed, append-nil, cases_eq, eq-eqb, flat_map-append, forked_after, forked_opened, forking_row, forking_since, forking_within, length-take, main_unforked, ne_eqb, opening_row}
+use Rattle.tree_dump.specs.{Forking, History, Legal, Limits, Line, OfScope, OfTask, Opening, ScopeInfo, before, closed, flat_map, forked_count, forking, info, info_of, inner, is_of_scope, is_of_task, is_task_of, lines_at}
+use Rattle.tree_dump.specs.{of_scope, of_task, opening, option_map_or, outermost, parent, task_numbers, tasks_of}
+use Rattle.tree_dump.proofs.Lemmas.{HasUnclosed, cases_eq, eq-eqb, forked_after, forking_row, forking_since, forking_within, length-take, main_unforked, ne_eqb, opening_row}
 use Rattle.tree_dump.proofs.Lemmas.{opening_since, opening_within, outermost_is, parent_smaller, running_forked, sum_by-append, sum_by-cons, task_there}
 use Rattle.tree_dump.proofs.{Insides.OnChain, Insides.inner_parent, Insides.is_next, Insides.itself, Insides.only_one, Insides.outermost_parent, Insides.smaller, Insides.up, Listed.count_listed, Listed.listed_holds}
-use Rattle.tree_dump.proofs.{Listed.some_or_none, Listed.sum_both, Listed.sum_least, Listed.sum_most, Listed.sum_same, Listed.sum_some, Listed.unit, Shows.opened_info, Shows.reached}
-
--- ---- the lines of the tree
-
-abbrev pub of_task : History → (ℕ → Option ℕ → List Line) → ℕ → ℕ → List Line
-of_task h inside depth k = OfTask depth k ∷ inside (depth + 1) (outermost h k)
-
-abbrev pub of_scope : History → (ℕ → Option ℕ → List Line) → ℕ → ScopeInfo → List Line
-of_scope h inside depth i = OfScope depth i ∷ (flat_map (of_task h inside (depth + 1)) (tasks_of h i.scope) ++ inside (depth + 1) (inner h i.scope))
-
-abbrev pub lines_at : History → ℕ → ℕ → Option ℕ → List Line
-lines_at h zero depth place = []
-lines_at h (suc n) depth place = option_map_or (of_scope h (lines_at h n) depth) (option_and_then (info h) place) []
-
--- they are written as the tree is
-abbrev Writes : Clock → History → (ℕ → Option ℕ → List Line) → (ℕ → Option ℕ → List ℕ) → Type 0
-Writes c h inside text = (depth : ℕ) (place : Option ℕ) → flat_map (line_text c h) (inside depth place) ≡ text depth place
-
-tasks_written : (c : Clock) (h : History) (inside : ℕ → Option ℕ → List Line) (text : ℕ → Option ℕ → List ℕ) → Writes c h inside text → (depth : ℕ) (ks : List ℕ) → flat_map (line_text c h) (flat_map (of_task h inside depth) ks) ≡ flat_map (task_lines c h text depth) ks
-tasks_written c h inside text writes depth [] = refl
-tasks_written c h inside text writes depth (k ∷ ks) =
-    flat_map-append (line_text c h) (of_task h inside depth k) (flat_map (of_task h inside depth) ks)
-    ∙ (ap (λ l. (task_line c h depth k ++ l) ++ flat_map (line_text c h) (flat_map (of_task h inside depth) ks)) (writes (depth + 1) (outermost h k))
-    ∙ ap (λ l. task_lines c h text depth k ++ l) (tasks_written c h inside text writes depth ks))
-
-scope_written : (c : Clock) (h : History) (inside : ℕ → Option ℕ → List Line) (text : ℕ → Option ℕ → List ℕ) → Writes c h inside text → (depth : ℕ) (i : ScopeInfo) → flat_map (line_text c h) (of_scope h inside depth i) ≡ scope_lines c h text depth i
-unfolding tasks_lines
-scope_written c h inside text writes depth i =
-    ap (λ l. scope_line c h depth i ++ l)
-    (flat_map-append (line_text c h) (flat_map (of_task h inside (depth + 1)) (tasks_of h i.scope)) (inside (depth + 1) (inner h i.scope))
-    ∙ (ap (λ l. l ++ flat_map (line_text c h) (inside (depth + 1) (inner h i.scope))) (tasks_written c h inside text writes (depth + 1) (tasks_of h i.scope))
-    ∙ ap (λ l. flat_map (task_lines c h text (depth + 1)) (tasks_of h i.scope) ++ l) (writes (depth + 1) (inner h i.scope))))
-
-pub lines_written : (c : Clock) (h : History) (n : ℕ) → Writes c h (lines_at h n) (nested c h n)
-unfolding nested
-lines_written c h zero depth place = refl
-lines_written c h (suc n) depth place = by (option_and_then (info h) place) (lines_written c h n)
-  where
-    by : (o : Option ScopeInfo) → Writes c h (lines_at h n) (nested c h n) → flat_map (line_text c h) (option_map_or (of_scope h (lines_at h n) depth) o []) ≡ option_map_or (scope_lines c h (nested c h n) depth) o []
-    by None writes = refl
-    by (Some i) writes = scope_written c h (lines_at h n) (nested c h n) writes depth i
-
--- all lines of the tree
-abbrev pub tree_lines : History → List Line
-tree_lines h = lines_at h 16 0 (outermost h 0)
+use Rattle.tree_dump.proofs.{Listed.some_or_none, Listed.sum_both, Listed.sum_most, Listed.sum_same, Listed.sum_some, Listed.unit}
 
 -- ---- how often a scope has a line
 
@@ -86,7 +41,7 @@ pub no_info : (h : History) (s : ℕ) → opening h s ≡ None → info h s ≡ 
 unfolding info
 no_info h s is = ap (option_map (info_of h s)) is
 
-no_place : (h : History) (n depth t : ℕ) → times t (lines_at h n depth None) ≡ 0
+pub no_place : (h : History) (n depth t : ℕ) → times t (lines_at h n depth None) ≡ 0
 no_place h zero depth t = refl
 no_place h (suc n) depth t = refl
 
@@ -258,65 +213,6 @@ module _ (L : Limits) (h : History) (legal : Legal L h) where
           unit_most true = omega arith
           unit_most false = omega arith
 
--- ---- at least once
-
-module _ (L : Limits) (c : Clock) (h : History) (legal : Legal L h) where
-  -- what the walk says of the scope, so many levels down, is among the lines
-  abbrev Counts : ℕ → ℕ → ℕ → Type 0
-  Counts n depth s = (z : ℕ) → times z (lines_at h (suc n) depth (Some s)) ≤ times z (tree_lines h)
-
-  from_root : (s : ℕ) → outermost h 0 ≡ Some s → Counts 15 0 s
-  from_root s at z = let same : times z (tree_lines h) ≡ times z (lines_at h 16 0 (Some s)) = ap (λ o. times z (lines_at h 16 0 o)) at in omega (arith, same)
-
-  to_inner : (n depth s t : ℕ) (i : ScopeInfo) → info h s ≡ Some i → inner h s ≡ Some t → Counts (suc n) depth s → Counts n (depth + 1) t
-  to_inner n depth s t i is at within z =
-      let o = opened_info h s i is in
-      let parts = split h (suc n) depth s z o.0 o.1 in
-      let all = within z in
-      let same : times z (lines_at h (suc n) (depth + 1) (inner h s)) ≡ times z (lines_at h (suc n) (depth + 1) (Some t)) = ap (λ x. times z (lines_at h (suc n) (depth + 1) x)) at in
-      omega (arith, parts, all, same)
-
-  to_under : (n depth s t index k : ℕ) (i : ScopeInfo) → info h s ≡ Some i → slice_get (tasks_of h s) index ≡ Some k → outermost h k ≡ Some t → Counts (suc n) depth s → Counts n (depth + 1 + 1) t
-  to_under n depth s t index k i is listed at within z =
-      let o = opened_info h s i is in
-      let parts = split h (suc n) depth s z o.0 o.1 in
-      let all = within z in
-      let one = sum_least (λ x. times z (lines_at h (suc n) (depth + 1 + 1) (outermost h x))) (tasks_of h s) index k listed in
-      let same : times z (lines_at h (suc n) (depth + 1 + 1) (outermost h k)) ≡ times z (lines_at h (suc n) (depth + 1 + 1) (Some t)) = ap (λ x. times z (lines_at h (suc n) (depth + 1 + 1) x)) at in
-      omega (arith, parts, all, one, same)
-
-  once : (s : ℕ) (o : Opening) → opening h s ≡ Some o → closed h s ≡ false → times s (tree_lines h) ≡ 1
-  once s o is live =
-      let it = reached L c h legal Counts from_root to_inner to_under (suc s) s o (omega arith) is live in
-      let all = it.3 s in
-      let parts = split h it.0 it.1 s s o is in
-      let here : unit (s == s) ≡ 1 = ap unit (eq-eqb s s refl) in
-      let most = at_root_most s in
-      omega (arith, all, parts, here, most)
-    where
-      at_root_most : (t : ℕ) → times t (tree_lines h) ≤ 1
-      at_root_most t = task_most L h legal 16 t 0 0 (most_once L h legal 16 t)
-
-  never : (s : ℕ) → closed h s ≡ true → times s (tree_lines h) ≡ 0
-  never s ended = by (some_or_none (times s (tree_lines h)))
-    where
-      root : (o : Option ℕ) → outermost h 0 ≡ o → 0 < times s (lines_at h 16 0 o) → ⊥
-      root None at some = let none = no_place h 16 0 s in omega (arith, none, some)
-      root (Some p) at some =
-          let it = shows_below L h legal 16 s 0 p (is_next h 0 0 p (outermost_is h 0 ∙ at)).unclosed.unclosed some in
-          let fails : true ≡ false = sym ended ∙ it.1 in absurd cc
-
-      by : (0 < times s (tree_lines h)) ⊎ (times s (tree_lines h) ≡ 0) → times s (tree_lines h) ≡ 0
-      by (inl some) = absurd (root (outermost h 0) refl some)
-      by (inr none) = none
-
-  scopes_once : (s : ℕ) (o : Opening) → opening h s ≡ Some o → times s (tree_lines h) ≡ cond (closed h s) 0 1
-  scopes_once s o is = by (closed h s) refl
-    where
-      by : (b : Bool) → closed h s ≡ b → times s (tree_lines h) ≡ cond b 0 1
-      by true ended = never s ended
-      by false live = once s o is live
-
 -- ---- tasks
 
 abbrev pub times_task : ℕ → List Line → ℕ
@@ -363,26 +259,3 @@ as_its_scope h k f is (suc n) depth (Some s) = by (opening h s) refl (as_its_sco
         let inside = same (depth + 1) (inner h s) in
         let parts = split h n depth s f.scope o opened in
         omega (arith, here, one, both, tasks, apart, listed, under, inside, parts)
-
--- ---- the tree
-
-root_lines : (c : Clock) (h : History) (o : Option ℕ) → (first : List ℕ) × (open_text c h o ≡ first ++ flat_map (line_text c h) (lines_at h 16 0 o))
-root_lines c h None = (codes "nothing is open\n", sym (append-nil (codes "nothing is open\n")))
-root_lines c h (Some s) = ([], sym (lines_written c h 16 0 (Some s)))
-
-pub tree_is : (L : Limits) (c : Clock) (h : History) → Legal L h → IsTreeOf c h (tree_lines h)
-unfolding tree_by
-tree_is L c h legal =
-    let it = root_lines c h (outermost h 0) in
-    record {
-      first = moment_line (moment h) c.now c.main ++ it.0;
-      text = ap (λ l. moment_line (moment h) c.now c.main ++ l) it.1 ∙ sym (append_assoc (moment_line (moment h) c.now c.main) it.0 (flat_map (line_text c h) (tree_lines h)));
-      scopes = λ s o is. scopes_once L c h legal s o is;
-      tasks = λ k f is. as_its_scope h k f is 16 0 (outermost h 0) ∙ scope_of_task k f is;
-    }
-  where
-    scope_of_task : (k : ℕ) (f : Forking) → forking h k ≡ Some f → times f.scope (tree_lines h) ≡ cond (closed h f.scope) 0 1
-    scope_of_task k f is = let it = forked_opened L h k f legal is in scopes_once L c h legal f.scope it.opened it.is
-
-pub shows_once : TreeShowsEachOnce
-shows_once L c h legal = (tree_lines h, tree_is L c h legal)

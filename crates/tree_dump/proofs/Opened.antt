@@ -1,7 +1,7 @@
--- Each number since the base is that of a scope, and there are no more scopes and tasks than the limits let.
+-- Each number since the base is that of a scope.
 use Rattle.std.proofs.Common.{[], ℕ, ◌+◌, ◌<◌, ◌==◌, ◌∙◌, ◌≡◌, ◌≤◌, Bool, None, Option, Some, ap, arith, cond, false, inl, inr, is_some, refl, true}
-use Rattle.tree_dump.specs.{Accepts, Event, Fork, History, Legal, Limits, Open, Opening, Origin, followed, forked_count, is_fork, is_open, opened_count, opening, option_or, scopes}
-use Rattle.tree_dump.proofs.Lemmas.{IsOpened, along, cases_lt, count_push, eq-eqb, fork_number, later, open_number, opened_some, opening_grows, opening_stays}
+use Rattle.tree_dump.specs.{Event, History, Open, Opening, Origin, followed, is_open, opening, option_or, scopes}
+use Rattle.tree_dump.proofs.Lemmas.{IsOpened, cases_lt, count_push, eq-eqb, later, opened_some, opening_grows, opening_stays}
 
 -- ---- each number is that of a scope
 
@@ -33,32 +33,3 @@ step h e was s more less =
 
 pub opened_all : (h : History) → AllOpened h
 opened_all h = later AllOpened step h 0 (start h.base)
-
--- ---- there are few enough
-
-abbrev IsFew : Limits → History → Type 0
-IsFew L h = (opened_count h ≤ L.scopes) × (forked_count h ≤ L.tasks)
-
-one_more : (L : Limits) (h : History) (e : Event) → Accepts L h e → IsFew L h → IsFew L (followed h e)
-one_more L h (Open actor policy options) ok was =
-    let under = open_number L h actor policy options ok.passed in
-    let opened = count_push is_open h.events (Open actor policy options) in
-    let forked = count_push is_fork h.events (Open actor policy options) in
-    (omega (arith, opened, under.0), omega (arith, forked, was.1))
-one_more L h (Fork actor scope label) ok was =
-    let under = fork_number L h actor scope label ok.passed in
-    let opened = count_push is_open h.events (Fork actor scope label) in
-    let forked = count_push is_fork h.events (Fork actor scope label) in
-    (omega (arith, opened, was.0), omega (arith, forked, under.0))
-one_more L h e ok was =
-    let opened = count_push is_open h.events e in
-    let forked = count_push is_fork h.events e in
-    (omega (arith, opened, was.0), omega (arith, forked, was.1))
-
-none_yet : (L : Limits) (b : Origin) → IsFew L (record { base = b; events = [] })
-none_yet L b = (omega arith, omega arith)
-
-pub few : (L : Limits) (h : History) → Legal L h → (opened_count h ≤ 4096) × (forked_count h ≤ 65536)
-few L h legal =
-    let it = along L (IsFew L) (none_yet L) (λ g e lawful ok was. one_more L g e ok was) h legal in
-    (omega (arith, it.0, L.scopes_in_range), omega (arith, it.1, L.tasks_in_range))

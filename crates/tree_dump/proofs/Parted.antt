@@ -1,7 +1,7 @@
 -- What a part of the tree has, one number after the other.
-use Rattle.std.proofs.Common.{[], ℕ, ◌++◌, ◌+◌, ◌∙◌, ◌∷◌, ◌≡◌, List, Some, ap, append-nil, fold, refl, slice_get, sym, take}
-use Rattle.tree_dump.specs.{flat_map, range_with_len}
-use Rattle.tree_dump.proofs.Lemmas.{flat_map-append, flat_map_more, range_push, take_at}
+use Rattle.std.proofs.Common.{[], ℕ, ◌++◌, ◌+◌, ◌∙◌, ◌∷◌, ◌≡◌, Bool, List, Some, ap, append-nil, cond, false, fold, refl, slice_get, sym, take, true}
+use Rattle.tree_dump.specs.{filter, flat_map, range_with_len}
+use Rattle.tree_dump.proofs.Lemmas.{filter-append, flat_map-append, flat_map_more, range_push, take_at}
 
 fold_push : {A : Type 0} (f : A → ℕ → A) (x : A) (ns : List ℕ) (n : ℕ) → fold f x (ns ++ n ∷ []) ≡ f (fold f x ns) n
 fold_push f x [] n = refl
@@ -11,9 +11,15 @@ fold_push f x (m ∷ ns) n = fold_push f (f x m) ns n
 pub sums_more : {A : Type 0} (f : A → ℕ → A) (x : A) (a n : ℕ) → fold f x (range_with_len a (n + 1)) ≡ f (fold f x (range_with_len a n)) (a + n)
 sums_more f x a n = ap (fold f x) (range_push a n) ∙ fold_push f x (range_with_len a n) (a + n)
 
-pub lines_more : (f : ℕ → List ℕ) (a n : ℕ) → flat_map f (range_with_len a (n + 1)) ≡ flat_map f (range_with_len a n) ++ f (a + n)
-lines_more f a n =
-    ap (flat_map f) (range_push a n) ∙ (flat_map-append f (range_with_len a n) ((a + n) ∷ []) ∙ ap (λ l. flat_map f (range_with_len a n) ++ l) (append-nil (f (a + n))))
+pub scopes_more : (p : ℕ → Bool) (f : ℕ → List ℕ) (a n : ℕ) → flat_map f (filter p (range_with_len a (n + 1))) ≡ flat_map f (filter p (range_with_len a n)) ++ cond (p (a + n)) (f (a + n)) []
+scopes_more p f a n =
+    ap (λ ns. flat_map f (filter p ns)) (range_push a n)
+    ∙ (ap (flat_map f) (filter-append p (range_with_len a n) ((a + n) ∷ []))
+    ∙ (flat_map-append f (filter p (range_with_len a n)) (filter p ((a + n) ∷ [])) ∙ ap (λ l. flat_map f (filter p (range_with_len a n)) ++ l) (by (p (a + n)))))
+  where
+    by : (b : Bool) → flat_map f (cond b ((a + n) ∷ []) []) ≡ cond b (f (a + n)) []
+    by true = append-nil (f (a + n))
+    by false = refl
 
 -- one task more has its line
 pub task_more : (f : ℕ → List ℕ) (ks : List ℕ) (i k : ℕ) (start old new : List ℕ) → slice_get ks i ≡ Some k → old ≡ start ++ flat_map f (take i ks) → new ≡ old ++ f k → new ≡ start ++ flat_map f (take (i + 1) ks)

@@ -3,9 +3,9 @@ use Rattle.std.proofs.Common.{[], ℕ, ◌++◌, ◌+◌, ◌-◌, ◌∙◌, �
 use Rattle.scope_log.proofs.Past.{IsTask}
 use Rattle.tree_dump.specs.{Event, Finished, History, LEVEL_LIMIT, Label, NamesNone, Never, Realm, Retirable, Running, ScopeInfo, Stage, TextTree.nested, TextTree.open_text, TreeStays, Waiting, aged_scope, counts, flat_map}
 use Rattle.tree_dump.specs.{forked_count, found_wait, info, inner, is_task_of, label, late_by, line, moment_line, no_clock, option_and_then, option_map_or, outermost, reading_in, retired, scope_age}
-use Rattle.tree_dump.specs.{scope_line, scope_lines, scope_text, since, span_text, stage, state, task_age, task_ages, task_line, task_lines, task_text, task_wait, tasks, tasks_lines, tasks_of, tree_by, tree_text, unretired, wait_text}
+use Rattle.tree_dump.specs.{scope_line, scope_text, since, span_text, stage, state, task_age, task_ages, task_line, task_text, task_wait, tasks, tasks_of, tree_by, tree_text, unretired, wait_text}
 use Rattle.tree_dump.proofs.Lemmas.{IsScope, filter_listed, greater, inner_new, leaves_alike, outermost_new, same_counts, same_info, same_inner, same_label, same_moment, same_outermost, same_stage, same_state, same_tasks_of}
-use Rattle.tree_dump.proofs.Walked.{info_scope}
+use Rattle.tree_dump.proofs.{TextWalked.nested_is, TextWalked.scope_lines, TextWalked.task_lines, TextWalked.tasks_lines, Walked.info_scope}
 
 flat_same : (f g : ℕ → List ℕ) (ks : List ℕ) → map f ks ≡ map g ks → flat_map f ks ≡ flat_map g ks
 flat_same f g [] e = refl
@@ -100,7 +100,7 @@ module _ (r : Retirable) (es : List Event) (none : NamesNone r es) where
   unfolding nested
   nested_alike zero depth place new = refl
   nested_alike (suc n) depth None new = refl
-  nested_alike (suc n) depth (Some s) new = place_alike n (λ deeper place there. nested_alike n deeper place there) depth s (new s refl)
+  nested_alike (suc n) depth (Some s) new = nested_is no_clock (unretired r es) n depth (Some s) ∙ (place_alike n (λ deeper place there. nested_alike n deeper place there) depth s (new s refl) ∙ sym (nested_is no_clock (retired r es) n depth (Some s)))
 
   open_alike : open_text no_clock (unretired r es) (outermost (unretired r es) 0) ≡ open_text no_clock (retired r es) (outermost (retired r es) 0)
   open_alike = ap (open_text no_clock (unretired r es)) (same_outermost r es 0) ∙ by (outermost (retired r es) 0) (λ s found. outermost_new r es 0 s found)

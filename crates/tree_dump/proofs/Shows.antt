@@ -1,31 +1,11 @@
 -- Each scope that is not closed lies inside an unclosed one, or is main's outermost: so the walk comes to it.
 use Rattle.std.proofs.Common.{[], ℕ, ◌++◌, ◌+◌, ◌<◌, ◌==◌, ◌∙◌, ◌∷◌, ◌≡◌, ◌≤◌, ◌⊎◌, Bool, List, None, Option, Some, ap, arith, cond, false, inl, inr, option_map, refl, slice_get, suc, sym, true, zero}
-use Rattle.tree_dump.specs.{Clock, Forking, HasPart, History, Legal, Limits, Never, Opening, ScopeInfo, TextTree.nested, TextTree.open_text, TreeShowsEach, around, before, closed, filter, flat_map, forked_count, forked_in}
-use Rattle.tree_dump.specs.{forking, info, info_of, inner, innermost, is_running, is_task_of, level, moment, moment_line, next_unclosed, opening, option_and_then, option_map_or, option_or, outermost, parent, scope_line}
-use Rattle.tree_dump.specs.{scope_lines, stage, stage_of, surrounding, task_line, task_lines, task_numbers, tasks_lines, tasks_of, tree_by}
-use Rattle.tree_dump.proofs.Lemmas.{HasUnclosed, IsOpened, append-nil, append_assoc, cases_lt, forked_after, forking_since, get_or-range_with_len, inner_closed, innermost_later, innermost_none, innermost_unclosed, legal_before}
+use Rattle.tree_dump.specs.{Clock, Forking, History, Legal, Limits, Never, Opening, ScopeInfo, around, before, closed, filter, forked_count, forked_in}
+use Rattle.tree_dump.specs.{forking, info, info_of, inner, innermost, is_running, is_task_of, level, next_unclosed, opening, option_and_then, option_map_or, option_or, outermost, parent}
+use Rattle.tree_dump.specs.{stage, stage_of, surrounding, task_numbers, tasks_of}
+use Rattle.tree_dump.proofs.Lemmas.{HasUnclosed, IsOpened, cases_lt, forked_after, forking_since, get_or-range_with_len, inner_closed, innermost_later, innermost_none, innermost_unclosed, legal_before}
 use Rattle.tree_dump.proofs.Lemmas.{length-range_with_len, level_by_parent, level_within, next_is, opened_before, opened_first, opening_row, opening_since, outermost_is, parent_smaller, scope_given, slice_get-get_or}
 use Rattle.tree_dump.proofs.Lemmas.{surrounding_opened, unclosed_before}
-use Rattle.tree_dump.proofs.Walked.{info_scope}
-
--- ---- parts of texts
-
-part_in : (text part piece : List ℕ) → HasPart text part → HasPart part piece → HasPart text piece
-part_in text part piece outer inside = (
-  outer.0 ++ inside.0,
-  inside.1 ++ outer.1,
-  outer.2 ∙ (ap (λ x. outer.0 ++ (x ++ outer.1)) inside.2 ∙ regroup outer.0 inside.0 piece inside.1 outer.1),
-)
-  where
-    regroup : (a b c d e : List ℕ) → a ++ ((b ++ (c ++ d)) ++ e) ≡ (a ++ b) ++ (c ++ (d ++ e))
-    regroup a b c d e = simp append_assoc
-
-part_flat : (f : ℕ → List ℕ) (ks : List ℕ) (i k : ℕ) → slice_get ks i ≡ Some k → HasPart (flat_map f ks) (f k)
-part_flat f [] i k at = absurd cc
-part_flat f (x ∷ xs) zero k at = let same : x ≡ k = cc in ([], flat_map f xs, ap (λ y. f y ++ flat_map f xs) same)
-part_flat f (x ∷ xs) (suc i) k at =
-    let rest = part_flat f xs i k at in
-    (f x ++ rest.0, rest.1, ap (λ y. f x ++ y) rest.2 ∙ sym (append_assoc (f x) rest.0 (f k ++ rest.1)))
 
 -- ---- the tasks of a scope
 
@@ -101,50 +81,11 @@ module _ (L : Limits) (c : Clock) (h : History) (legal : Legal L h) where
   parent_there s p found at =
       opened_before h at.0.place p (surrounding_opened L (before h at.0.place) at.0.actor p (legal_before L h at.0.place legal) (ap (option_and_then (around h)) (sym at.1) ∙ found))
 
-  -- ---- what is part of the text
-
-  -- what the walk says of the scope, so many levels down and at this depth, is in the text
-  abbrev InText : ℕ → ℕ → ℕ → Type 0
-  InText n depth s = HasPart (tree_by c h) (nested c h (suc n) depth (Some s))
-
-  said : (n depth s : ℕ) (i : ScopeInfo) → info h s ≡ Some i → nested c h (suc n) depth (Some s) ≡ scope_lines c h (nested c h n) depth i
-  unfolding nested
-  said n depth s i is = ap (λ o. option_map_or (scope_lines c h (nested c h n) depth) o []) is
-
   info_there : (s : ℕ) → IsOpened h s → (i : ScopeInfo) × (info h s ≡ Some i)
   unfolding info
   info_there s it = (info_of h s it.opened, ap (option_map (info_of h s)) it.is)
 
-  line_in : (n depth s : ℕ) (i : ScopeInfo) → info h s ≡ Some i → InText n depth s → HasPart (tree_by c h) (scope_line c h depth i)
-  line_in n depth s i is within = part_in (tree_by c h) (nested c h (suc n) depth (Some s)) (scope_line c h depth i) within ([], tasks_lines c h (nested c h n) (depth + 1) (tasks_of h i.scope) ++ nested c h n (depth + 1) (inner h i.scope), said n depth s i is)
-
-  task_in : (n depth s : ℕ) (i : ScopeInfo) (index k : ℕ) → info h s ≡ Some i → slice_get (tasks_of h i.scope) index ≡ Some k → InText n depth s → HasPart (tree_by c h) (task_lines c h (nested c h n) (depth + 1) k)
-  unfolding tasks_lines
-  task_in n depth s i index k is at within =
-      let all = part_in (tree_by c h) (nested c h (suc n) depth (Some s)) (tasks_lines c h (nested c h n) (depth + 1) (tasks_of h i.scope)) within (scope_line c h depth i, nested c h n (depth + 1) (inner h i.scope), said n depth s i is) in
-      part_in (tree_by c h) (tasks_lines c h (nested c h n) (depth + 1) (tasks_of h i.scope)) (task_lines c h (nested c h n) (depth + 1) k) all (part_flat (task_lines c h (nested c h n) (depth + 1)) (tasks_of h i.scope) index k at)
-
-  inner_in : (n depth s t : ℕ) (i : ScopeInfo) → info h s ≡ Some i → inner h s ≡ Some t → InText (suc n) depth s → InText n (depth + 1) t
-  inner_in n depth s t i is at within =
-      let place : inner h i.scope ≡ Some t = ap (inner h) (info_scope h s i is) ∙ at in
-      let front = scope_line c h depth i ++ tasks_lines c h (nested c h (suc n)) (depth + 1) (tasks_of h i.scope) in
-      part_in (tree_by c h) (nested c h (suc (suc n)) depth (Some s)) (nested c h (suc n) (depth + 1) (Some t)) within
-      (front, [], said (suc n) depth s i is ∙ (ap (λ x. scope_line c h depth i ++ (tasks_lines c h (nested c h (suc n)) (depth + 1) (tasks_of h i.scope) ++ nested c h (suc n) (depth + 1) x)) place ∙ regroup (scope_line c h depth i) (tasks_lines c h (nested c h (suc n)) (depth + 1) (tasks_of h i.scope)) (nested c h (suc n) (depth + 1) (Some t))))
-    where
-      regroup : (a b c : List ℕ) → a ++ (b ++ c) ≡ (a ++ b) ++ (c ++ [])
-      regroup a b c = sym (append_assoc a b c) ∙ ap (λ x. (a ++ b) ++ x) (sym (append-nil c))
-
-  under_in : (n depth s t index k : ℕ) (i : ScopeInfo) → info h s ≡ Some i → slice_get (tasks_of h s) index ≡ Some k → outermost h k ≡ Some t → InText (suc n) depth s → InText n (depth + 1 + 1) t
-  under_in n depth s t index k i is at place within =
-      let lines = task_in (suc n) depth s i index k is (ap (λ x. slice_get (tasks_of h x) index) (info_scope h s i is) ∙ at) within in
-      part_in (tree_by c h) (task_lines c h (nested c h (suc n)) (depth + 1) k) (nested c h (suc n) (depth + 1 + 1) (Some t)) lines
-      (task_line c h (depth + 1) k, [], ap (λ x. task_line c h (depth + 1) k ++ nested c h (suc n) (depth + 1 + 1) x) place ∙ ap (λ x. task_line c h (depth + 1) k ++ x) (sym (append-nil (nested c h (suc n) (depth + 1 + 1) (Some t)))))
-
-  root_in : (s : ℕ) → outermost h 0 ≡ Some s → InText 15 0 s
-  unfolding tree_by
-  root_in s at =
-      (moment_line (moment h) c.now c.main, [], ap (λ o. moment_line (moment h) c.now c.main ++ open_text c h o) at ∙ ap (λ x. moment_line (moment h) c.now c.main ++ x) (sym (append-nil (nested c h 16 0 (Some s)))))
-      -- ---- the walk comes to each, whatever is said of it that goes on inwards from main's outermost scope
+  -- ---- the walk comes to each, whatever is said of it that goes on inwards from main's outermost scope
 
   module _ (IsIn : ℕ → ℕ → ℕ → Type 0)
       (from_root : (s : ℕ) → outermost h 0 ≡ Some s → IsIn 15 0 s)
@@ -227,13 +168,3 @@ opened_info h s i is = by (opening h s) refl is
     by : (o : Option Opening) → opening h s ≡ o → option_map (info_of h s) o ≡ Some i → (o : Opening) × (opening h s ≡ Some o)
     by None at is = absurd cc
     by (Some o) at is = (o, at)
-
-pub shows_each : TreeShowsEach
-shows_each L c h s i legal is live =
-    let o = opened_info h s i is in
-    let at = reached L c h legal (InText L c h legal) (root_in L c h legal) (inner_in L c h legal) (under_in L c h legal) (suc s) s o.0 (omega arith) o.1 live in (
-      at.1,
-      line_in L c h legal at.0 at.1 s i is at.3,
-      λ index k there. let lines = task_in L c h legal at.0 at.1 s i index k is there at.3 in
-          part_in (tree_by c h) (task_lines c h (nested c h at.0) (at.1 + 1) k) (task_line c h (at.1 + 1) k) lines ([], nested c h at.0 (at.1 + 1 + 1) (outermost h k), refl),
-    )

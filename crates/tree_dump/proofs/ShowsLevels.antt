@@ -2,10 +2,10 @@
 use Rattle.std.proofs.Common.{[], ℕ, ◌&&◌, ◌++◌, ◌+◌, ◌-◌, ◌<◌, ◌∙◌, ◌∷◌, ◌≡◌, ◌≤◌, ◌⊎◌, Bool, List, None, Option, Some, ap, ap₂, arith, codes, cond, false, inl, inr, is_some, min, nat_lt, not, refl, subst, suc, sym, true, zero}
 use Rattle.scope_rules.proofs.Forkings.{IsTask}
 use Rattle.tree_dump.specs.{Clock, Forking, History, LEVEL_LIMIT, Legal, LevelsShow, Limits, Line, OfScope, OfTask, Opening, RootLevelsShow, ScopeInfo, ShowsLevels.ShowsLevels, TextTree.nested, closed, decimal, filter, flat_map}
-use Rattle.tree_dump.specs.{info, info_of, inner, is_task_of, is_within, level, levels_from, line_text, opening, option_map_or, outermost, parent, task_numbers, tasks_of, with_sums}
+use Rattle.tree_dump.specs.{info, info_of, inner, is_task_of, is_within, level, levels_from, line_text, lines_at, of_scope, of_task, opening, option_map_or, outermost, parent, task_numbers, tasks_of, tree_lines, with_sums}
 use Rattle.tree_dump.proofs.Lemmas.{cases_lt, filter-append, forked_opened, le-min, level_by_parent, ltb-false, ltb-true, min-eq_left, min-le_left, min-le_right, outermost_is, task_there}
-use Rattle.tree_dump.proofs.{Insides.inner_parent, Insides.is_next, Insides.outermost_parent, Lying.lying, Once.as_its_scope, Once.info_is, Once.lines_at, Once.lines_written, Once.no_info, Once.of_scope, Once.of_task}
-use Rattle.tree_dump.proofs.{Once.tree_is, Once.tree_lines}
+use Rattle.tree_dump.proofs.{Insides.inner_parent, Insides.is_next, Insides.outermost_parent, Lying.lying, Once.as_its_scope, Once.info_is, Once.no_info}
+use Rattle.tree_dump.proofs.Lying.{tree_is}
 
 -- the smaller of two
 record IsLeast (r a b : ℕ) : Type 0 where
@@ -154,14 +154,15 @@ least_is a =
 
 module _ (L : Limits) (c : Clock) (h : History) (levels s : ℕ) (legal : Legal L h) (live : closed h s ≡ false) where
   some_levels : nested c h (min levels LEVEL_LIMIT) 0 (Some s) ≡ flat_map (line_text c h) (filter (is_within h (level h s + levels)) (lines_at h 16 0 (Some s)))
+  unfolding nested
   some_levels =
-      sym (lines_written c h (min levels 16) 0 (Some s))
-      ∙ ap (flat_map (line_text c h)) (sym (cuts L h legal (level h s + levels) 16 0 s (min levels 16) live (subst (λ n. IsLeast (min levels 16) n 16) (omega arith) (least_is levels))))
+      ap (flat_map (line_text c h)) (sym (cuts L h legal (level h s + levels) 16 0 s (min levels 16) live (subst (λ n. IsLeast (min levels 16) n 16) (omega arith) (least_is levels))))
 
   shows : (place : Option ℕ) → levels_from c h levels place ≡ nested c h (min levels LEVEL_LIMIT) 0 (Some s) → ShowsLevels c h levels s place (lines_at h 16 0 (Some s))
+  unfolding nested
   shows place from =
       record {
-        whole = sym (lines_written c h 16 0 (Some s));
+        whole = refl;
         scopes = λ t o is. lying L h legal s c live t o is;
         tasks = λ k f is. as_its_scope h k f is 16 0 (Some s) ∙ (let it = forked_opened L h k f legal is in lying L h legal s c live f.scope it.opened it.is);
         shown = ap (with_sums c h) (from ∙ some_levels);

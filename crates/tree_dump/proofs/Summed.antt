@@ -1,9 +1,9 @@
 -- The sums count the scopes that are not closed, and their tasks at each stage.
 use Rattle.std.proofs.Common.{[], ℕ, ◌&&◌, ◌*◌, ◌+◌, ◌<◌, ◌∙◌, ◌∷◌, ◌≡◌, ◌≤◌, Bool, List, ap, arith, cond, count_by, false, fold, length, length-append, min, not, refl, subst, suc, sym, true, zero}
-use Rattle.tree_dump.specs.{Counts, Finished, History, IsCountOf, Never, Running, ScopeInfo, Stage, Sums, SumsCount, Waiting, closed, counts, filter, flat_map, forked_count, is_at, is_stage, is_task_of, no_sums, opened_count}
-use Rattle.tree_dump.specs.{option_map_or, range_with_len, scope_numbers, scopes, stage, task_numbers, tasks_at, tasks_of, unclosed, with_counts, with_scope}
+use Rattle.tree_dump.specs.{Counts, Finished, History, Never, Running, ScopeInfo, Stage, Sums, Waiting, closed, counts, filter, flat_map, forked_count, is_at, is_stage, is_task_of, no_sums, opened_count}
+use Rattle.tree_dump.specs.{option_map_or, range_with_len, scope_numbers, scopes, stage, sums, task_numbers, tasks_at, tasks_of, unclosed, with_counts, with_scope}
 use Rattle.tree_dump.proofs.Lemmas.{count_by-cons, count_by-le-length, filter-append, length-range_with_len, min-eq_left}
-use Rattle.tree_dump.proofs.{Once.info_is, Opened.few, Opened.opened_all}
+use Rattle.tree_dump.proofs.{Once.info_is, Opened.opened_all}
 
 -- the tasks at a stage, of sums and of one scope
 abbrev summed : Stage → Sums → ℕ
@@ -49,14 +49,14 @@ counted_tasks : (h : History) (s : ℕ) (x : Stage) → counted x (counts h s) �
 unfolding tasks_of
 counted_tasks h s x = counted_is h s x ∙ listed h s x (task_numbers h)
 
-counted_most : (h : History) (s : ℕ) (x : Stage) → forked_count h ≤ 65536 → counted x (counts h s) ≤ 65536
+counted_most : (h : History) (s : ℕ) (x : Stage) → forked_count h ≤ 4294967295 → counted x (counts h s) ≤ 4294967295
 counted_most h s x most = omega (arith, counted_is h s x, count_by-le-length (is_at h s x) (task_numbers h), length-range_with_len (h.base.tasks + 1) (forked_count h), most)
 
 -- ---- one scope more
 
 record HasRoom (u : Sums) (n : ℕ) : Type 0 where
   scopes : u.scopes + n ≤ 18446744073709551615
-  stages : (x : Stage) → summed x u + 65536 * n ≤ 18446744073709551615
+  stages : (x : Stage) → summed x u + 4294967295 * n ≤ 18446744073709551615
 
 least : (a : ℕ) → a ≤ 18446744073709551615 → min a 18446744073709551615 ≡ a
 least a less = min-eq_left less
@@ -77,7 +77,7 @@ stepped h u s more less =
     let it = opened_all h s more less in
     ap (λ o. cond (closed h s) u (option_map_or (λ (i : ScopeInfo). with_counts u (counts h i.scope)) o u)) (info_is h s it.opened it.is)
 
-module _ (h : History) (most : forked_count h ≤ 65536) where
+module _ (h : History) (most : forked_count h ≤ 4294967295) where
   one_more : (s : ℕ) (ns : List ℕ) (x : Stage) → length (tasks_at h x (s ∷ ns)) ≡ counted x (counts h s) + length (tasks_at h x ns)
   one_more s ns x =
       let apart = ap length (filter-append (at_stage h x) (tasks_of h s) (flat_map (tasks_of h) ns)) in
@@ -117,24 +117,21 @@ module _ (h : History) (most : forked_count h ≤ 65536) where
                 omega (arith, all, is, more_tasks, longer);
           }
 
-pub sums_count : SumsCount
-sums_count L h legal =
-    let bounds = few L h legal in
-    let it = folded h bounds.1 (opened_count h) (h.base.scopes + 1) no_sums (omega arith) (omega arith) (record { scopes = omega (arith, bounds.0); stages = λ x. none_at x bounds.0 }) in
+made : (u : Sums) (a b c d e : ℕ) → u.scopes ≡ a → u.waiting ≡ b → u.running ≡ c → u.finished ≡ d → u.never ≡ e → u ≡ record { scopes = a; waiting = b; running = c; finished = d; never = e }
+made u a b c d e p q r s t = λ i. record { scopes = p i; waiting = q i; running = r i; finished = s i; never = t i }
+
+-- there are less than 2^32 scopes and tasks: so no sum is cut
+pub sums_are : (h : History) → opened_count h ≤ 4294967295 → forked_count h ≤ 4294967295 → fold (with_scope h) no_sums (scope_numbers h) ≡ sums h
+sums_are h few most =
+    let it = folded h most (opened_count h) (h.base.scopes + 1) no_sums (omega arith) (omega arith) (record { scopes = omega (arith, few); stages = λ x. none_at x few }) in
     let waits = it.stages Waiting in
     let runs = it.stages Running in
     let ended = it.stages Finished in
     let never = it.stages Never in
-    let counts_all : IsCountOf h (unclosed h (scope_numbers h)) = record {
-      scopes = omega (arith, it.scopes);
-      waiting = omega (arith, waits);
-      running = omega (arith, runs);
-      finished = omega (arith, ended);
-      never = omega (arith, never);
-    } in
-    (counts_all, rw counts_all.scopes (rw counts_all.waiting (rw counts_all.running (rw counts_all.finished (rw counts_all.never refl)))))
+    let all = sums h in
+    made (fold (with_scope h) no_sums (scope_numbers h)) all.scopes all.waiting all.running all.finished all.never (omega (arith, it.scopes)) (omega (arith, waits)) (omega (arith, runs)) (omega (arith, ended)) (omega (arith, never))
   where
-    none_at : (x : Stage) → opened_count h ≤ 4096 → summed x no_sums + 65536 * opened_count h ≤ 18446744073709551615
+    none_at : (x : Stage) → opened_count h ≤ 4294967295 → summed x no_sums + 4294967295 * opened_count h ≤ 18446744073709551615
     none_at Never small = omega (arith, small)
     none_at Waiting small = omega (arith, small)
     none_at Running small = omega (arith, small)

@@ -10,13 +10,10 @@ pub mod TextLines
 pub mod TextTree
 pub mod Sent
 pub mod RetiringText
-pub mod Shows
 pub mod Once
 pub mod Awaits
 pub mod Timed
 pub mod TimedAdds
-pub mod ShowsAwaited
-pub mod Summed
 pub mod ShowsLevels
 pub mod Terms
 unfoldable pub use Terms.*
@@ -28,13 +25,10 @@ pub use Once.*
 pub use Retiring.*
 pub use RetiringText.*
 pub use Sent.*
-pub use Shows.*
-pub use ShowsAwaited.*
 pub use ShowsLevels.*
-pub use Summed.*
 unfoldable pub use TextLines.*
-pub use TextTree.{line, scope_line, scope_lines, task_ages, task_lines, tree_text}
-unfoldable pub use TextTree.{aged_scope, task_line, tasks_lines, tree_by}
+pub use TextTree.{Line, OfScope, OfTask, line, line_text, lines_at, of_scope, of_task, scope_line, task_ages, tree_lines, tree_text}
+unfoldable pub use TextTree.{aged_scope, task_line, tree_by}
 unfoldable pub use Timed.*
 pub use TimedAdds.*
 pub use Tree.{dump_data, levels, scope_shown, task_shown, tasks_shown}

@@ -1,16 +1,7 @@
 -- That the tree shows each scope and each task once.
 use Rattle.std.specs.Prelude.{ℕ, ◌++◌, ◌==◌, ◌≡◌, Bool, List, Some, cond, count_by, false}
-use Rattle.tree_dump.specs.Terms.{Forking, History, Legal, Limits, Opening, ScopeInfo, closed, flat_map, forking, opening}
-use Rattle.tree_dump.specs.{Ages.Clock, TextTree.scope_line, TextTree.task_line, TextTree.tree_by}
-
--- a line of a tree: of a scope or of a task, so deep
-pub data Line : Type 0 where
-  OfScope : ℕ → ScopeInfo → Line
-  OfTask : ℕ → ℕ → Line
-
-abbrev pub line_text : Clock → History → Line → List ℕ
-line_text c h (OfScope depth i) = scope_line c h depth i
-line_text c h (OfTask depth k) = task_line c h depth k
+use Rattle.tree_dump.specs.Terms.{Forking, History, Legal, Limits, Opening, closed, flat_map, forking, opening}
+use Rattle.tree_dump.specs.{Ages.Clock, TextTree.Line, TextTree.OfScope, TextTree.OfTask, TextTree.line_text, TextTree.tree_by, TextTree.tree_lines}
 
 abbrev pub is_of_scope : ℕ → Line → Bool
 is_of_scope s (OfScope depth i) = i.scope == s
@@ -28,6 +19,6 @@ pub record IsTreeOf (c : Clock) (h : History) (lines : List Line) : Type 0 where
   pub scopes : (s : ℕ) (o : Opening) → opening h s ≡ Some o → count_by (is_of_scope s) lines ≡ cond (closed h s) 0 1
   pub tasks : (k : ℕ) (f : Forking) → forking h k ≡ Some f → count_by (is_of_task k) lines ≡ cond (closed h f.scope) 0 1
 
--- in a legal history there are such lines
+-- so it is of the lines of a legal history's tree
 abbrev pub TreeShowsEachOnce : Type 0
-TreeShowsEachOnce = (L : Limits) (c : Clock) (h : History) → Legal L h → (lines : List Line) × IsTreeOf c h lines
+TreeShowsEachOnce = (L : Limits) (c : Clock) (h : History) → Legal L h → IsTreeOf c h (tree_lines h)

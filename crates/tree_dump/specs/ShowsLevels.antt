@@ -1,7 +1,7 @@
 -- What is shown of some levels of a tree.
 use Rattle.std.specs.Prelude.{ℕ, ◌&&◌, ◌+◌, ◌==◌, ◌≡◌, Bool, List, None, Option, Some, cond, count_by, false, nat_lt, not, true}
 use Rattle.tree_dump.specs.Terms.{Forking, History, LEVEL_LIMIT, Legal, Limits, Opening, chain_by, closed, filter, flat_map, forking, level, list_any, opening, option_map_or, outermost, parent}
-use Rattle.tree_dump.specs.{Ages.Clock, Once.IsTreeOf, Once.Line, Once.OfScope, Once.OfTask, Once.is_of_scope, Once.is_of_task, Once.line_text, TextTree.nested, TreeParts.part_text, TreeParts.stands, TreeParts.with_sums}
+use Rattle.tree_dump.specs.{Ages.Clock, Once.IsTreeOf, Once.is_of_scope, Once.is_of_task, TextTree.Line, TextTree.OfScope, TextTree.OfTask, TextTree.line_text, TextTree.nested, TreeParts.part_text, TreeParts.stands, TreeParts.with_sums}
 use Rattle.tree_dump.specs.declared.parts.TreePart.TheVariants as part
 
 -- the line is of a scope whose level is below this one, or of a task of such a scope

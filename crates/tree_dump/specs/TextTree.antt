@@ -24,22 +24,38 @@ task_ages c h k = span_text (codes " for ") (task_age c h k (stage h k)) ++ wait
 unfoldable pub task_line : Clock → History → ℕ → ℕ → List ℕ
 task_line c h depth k = option_map_or (λ l. line depth (task_text k l.name (stage h k) (state h k) ++ task_ages c h k)) (label h k) []
 
--- task k at this depth, with what `inside` tells of the scope inside it
-abbrev pub task_lines : Clock → History → (ℕ → Option ℕ → List ℕ) → ℕ → ℕ → List ℕ
-task_lines c h inside depth k = task_line c h depth k ++ inside (depth + 1) (outermost h k)
+-- ---- the lines
 
--- these tasks at this depth
-unfoldable pub tasks_lines : Clock → History → (ℕ → Option ℕ → List ℕ) → ℕ → List ℕ → List ℕ
-tasks_lines c h inside depth tasks = flat_map (task_lines c h inside depth) tasks
+-- a line of a tree: of a scope or of a task, so deep
+pub data Line : Type 0 where
+  OfScope : ℕ → ScopeInfo → Line
+  OfTask : ℕ → ℕ → Line
 
--- a scope at this depth: its line, its tasks in fork order with what lies inside them, and what lies inside it
-abbrev pub scope_lines : Clock → History → (ℕ → Option ℕ → List ℕ) → ℕ → ScopeInfo → List ℕ
-scope_lines c h inside depth i = scope_line c h depth i ++ (tasks_lines c h inside (depth + 1) (tasks_of h i.scope) ++ inside (depth + 1) (inner h i.scope))
+-- task k at this depth, and below it what lies inside it
+abbrev pub of_task : History → (ℕ → Option ℕ → List Line) → ℕ → ℕ → List Line
+of_task h inside depth k = OfTask depth k ∷ inside (depth + 1) (outermost h k)
+
+-- a scope at this depth, and below it its tasks in fork order, and what lies inside it
+abbrev pub of_scope : History → (ℕ → Option ℕ → List Line) → ℕ → ScopeInfo → List Line
+of_scope h inside depth i = OfScope depth i ∷ (flat_map (of_task h inside (depth + 1)) (tasks_of h i.scope) ++ inside (depth + 1) (inner h i.scope))
 
 -- what stands where a scope may lie, down to so many levels of scopes
+abbrev pub lines_at : History → ℕ → ℕ → Option ℕ → List Line
+lines_at h zero depth place = []
+lines_at h (suc n) depth place = option_map_or (of_scope h (lines_at h n) depth) (option_and_then (info h) place) []
+
+-- all of them: from main's outermost scope on
+abbrev pub tree_lines : History → List Line
+tree_lines h = lines_at h LEVEL_LIMIT 0 (outermost h 0)
+
+-- ---- the text
+
+abbrev pub line_text : Clock → History → Line → List ℕ
+line_text c h (OfScope depth i) = scope_line c h depth i
+line_text c h (OfTask depth k) = task_line c h depth k
+
 unfoldable pub nested : Clock → History → ℕ → ℕ → Option ℕ → List ℕ
-nested c h zero depth place = []
-nested c h (suc n) depth place = option_map_or (scope_lines c h (nested c h n) depth) (option_and_then (info h) place) []
+nested c h n depth place = flat_map (line_text c h) (lines_at h n depth place)
 
 -- main's outermost scope with all inside it, or that there is none
 abbrev pub open_text : Clock → History → Option ℕ → List ℕ

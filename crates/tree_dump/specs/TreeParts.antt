@@ -1,7 +1,7 @@
 -- Parts of the tree, as text, and what all that is open sums up to.
-use Rattle.std.specs.Prelude.{[], ℕ, ◌&&◌, ◌++◌, ◌+◌, Bool, List, None, Option, Some, codes, false, fold, if◌then◌else◌, is_some, min, nat_lt, not, true}
-use Rattle.tree_dump.specs.Terms.{Counts, History, LEVEL_LIMIT, Running, ScopeInfo, Stage, Sums, TreePart, Waiting, closed, counts, decimal, flat_map, info, moment, opening, option_map_or, outermost, scope_numbers, stage}
-use Rattle.tree_dump.specs.Terms.{tasks_of}
+use Rattle.std.specs.Prelude.{[], ℕ, ◌&&◌, ◌++◌, ◌+◌, Bool, List, None, Option, Some, codes, false, if◌then◌else◌, is_some, length, min, not, true}
+use Rattle.tree_dump.specs.Terms.{Counts, Finished, History, LEVEL_LIMIT, Never, Running, ScopeInfo, Stage, Sums, TreePart, Waiting, closed, counts, decimal, filter, flat_map, info, is_stage, is_unsettled, moment, opening}
+use Rattle.tree_dump.specs.Terms.{option_map_or, outermost, scope_numbers, settled, stage, task_numbers, tasks_of}
 use Rattle.tree_dump.specs.{Ages.Clock, TextLines.moment_line, TextTree.nested, TextTree.scope_line, TextTree.task_line, TextTree.tree_by}
 use Rattle.tree_dump.specs.declared.parts.TreePart.TheVariants as part
 
@@ -28,9 +28,25 @@ with_counts u c = record {
 unfoldable pub with_scope : History → Sums → ℕ → Sums
 with_scope h u s = if closed h s then u else option_map_or (λ i. with_counts u (counts h i.scope)) (info h s) u
 
--- how many scopes are not closed, and how many of their tasks are at each stage
+-- the scopes that are not closed, of these
+abbrev pub unclosed : History → List ℕ → List ℕ
+unclosed h scopes = filter (λ s. not (closed h s)) scopes
+
+-- the tasks of these scopes at a stage
+abbrev pub tasks_at : History → Stage → List ℕ → List ℕ
+tasks_at h x scopes = filter (λ k. is_stage x (stage h k)) (flat_map (tasks_of h) scopes)
+
+-- how many scopes are not closed, and how many tasks of those are at each stage
 abbrev pub sums : History → Sums
-sums h = fold (with_scope h) no_sums (scope_numbers h)
+sums h =
+    let open_scopes = unclosed h (scope_numbers h) in
+    record {
+      scopes = length open_scopes;
+      waiting = length (tasks_at h Waiting open_scopes);
+      running = length (tasks_at h Running open_scopes);
+      finished = length (tasks_at h Finished open_scopes);
+      never = length (tasks_at h Never open_scopes);
+    }
 
 abbrev pub awaited_sums : Sums → List ℕ
 awaited_sums u = codes "open in all: scopes " ++ decimal u.scopes ++ codes ", tasks waiting " ++ decimal u.waiting ++ codes ", running " ++ decimal u.running
@@ -52,17 +68,23 @@ waits _ = false
 unfoldable pub awaited_task : Clock → History → ℕ → List ℕ
 awaited_task c h k = if waits (stage h k) then task_line c h 1 k else []
 
--- a scope with those of its tasks, if there are such
+-- a scope, and below it its tasks that wait or run, in fork order
 abbrev pub awaited_lines : Clock → History → ScopeInfo → List ℕ
-awaited_lines c h i = if nat_lt 0 ((counts h i.scope).waiting + (counts h i.scope).running) then scope_line c h 0 i ++ flat_map (awaited_task c h) (tasks_of h i.scope) else []
+awaited_lines c h i = scope_line c h 0 i ++ flat_map (task_line c h 1) (filter (is_unsettled h i.scope) (task_numbers h))
 
--- scope s, if it is not closed and waits for tasks
 unfoldable pub awaited_scope : Clock → History → ℕ → List ℕ
-awaited_scope c h s = if closed h s then [] else option_map_or (awaited_lines c h) (info h s) []
+awaited_scope c h s = option_map_or (awaited_lines c h) (info h s) []
 
--- all of them, in the order of their openings: the oldest first
+-- scope s is not closed, and a task of it waits or runs
+abbrev pub is_awaiting : History → ℕ → Bool
+is_awaiting h s = not (closed h s) && not (settled h s)
+
+abbrev pub awaited_if : Clock → History → ℕ → List ℕ
+awaited_if c h s = if is_awaiting h s then awaited_scope c h s else []
+
+-- all such scopes, each once, in the order of their openings: the oldest first
 abbrev pub awaited : Clock → History → List ℕ
-awaited c h = flat_map (awaited_scope c h) (scope_numbers h)
+awaited c h = flat_map (awaited_scope c h) (filter (is_awaiting h) (scope_numbers h))
 
 -- ---- some levels
 

@@ -1,6 +1,6 @@
 //! Laws of dumps and trees. The functions do nothing: their contracts are the laws.
 
-ghost use Rattle.tree_dump.specs.{AwaitedShows, DumpStays, LevelsShow, RootLevelsShow, SumsCount, TimedAdds.TimedAdds, TreeAwaits, TreeShowsEach, TreeShowsEachOnce, TreeStays};
+ghost use Rattle.tree_dump.specs.{DumpStays, LevelsShow, RootLevelsShow, TimedAdds.TimedAdds, TreeAwaits, TreeShowsEachOnce, TreeStays};
 
 /// A retirement changes nothing that a dump or a tree shows. If a list of commands without its retirements meets no
 /// limit, and no command behind an accepted retirement names a discarded number, then what it leaves is shown the same
@@ -17,14 +17,8 @@ pub fn timed_adds()
     ensures { TimedAdds }
 {}
 
-/// The tree of a legal history has a line for each scope that is not closed, and one level deeper a line for each of its
-/// tasks.
-pub fn tree_shows_each()
-    ensures { TreeShowsEach }
-{}
-
 /// The tree of a legal history is made of lines. Each scope that is not closed has exactly one, and so has each of its
-/// tasks. No closed scope has one, and no task of a closed scope.
+/// tasks, below it. No closed scope has one, and no task of a closed scope.
 pub fn tree_shows_each_once()
     ensures { TreeShowsEachOnce }
 {}
@@ -33,18 +27,6 @@ pub fn tree_shows_each_once()
 #[tactic(auto, using(crate::proofs::Awaits::tree_awaits))]
 pub fn tree_awaits()
     ensures { TreeAwaits }
-{}
-
-/// What is shown of what is waited for in a legal history: the scopes that are not closed and have a task that waits or
-/// runs, each once, in the order of their openings. Below each stand just those of its tasks, each once.
-pub fn awaited_shows()
-    ensures { AwaitedShows }
-{}
-
-/// The sums of a legal history say how many scopes are not closed, and how many tasks of those scopes are at each stage.
-#[tactic(auto, using(crate::proofs::Summed::sums_count))]
-pub fn sums_count()
-    ensures { SumsCount }
 {}
 
 /// What is shown of some levels of the tree of a legal history. The whole tree from that scope on has one line for each

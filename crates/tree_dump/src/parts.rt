@@ -1,14 +1,13 @@
 //! Parts of the tree as text: what is waited for alone, or some levels. A last line sums up all that is open.
 ghost use Rattle.std.specs.Prelude.{◌++◌, ◌≡◌, IfOk, OnOk, Some, string_bytes};
-ghost use Rattle.tree_dump.specs.{Passes, added, awaited, awaited_lines, awaited_scope, awaited_sums, awaited_task, clock_of, ended_sums, flat_map, levels_from, part_text, scope_check, stands, sums, sums_text, tasks_of, waits};
-ghost use Rattle.tree_dump.specs.{with_counts, with_scope};
+ghost use Rattle.tree_dump.specs.{Passes, added, awaited, awaited_if, awaited_sums, awaited_task, clock_of, ended_sums, filter, flat_map, is_unsettled, levels_from, part_text, scope_check};
+ghost use Rattle.tree_dump.specs.{settled, stands, sums, sums_text, task_line, task_numbers, waits, with_counts, with_scope};
 
 use crate::ages::Ages;
 use crate::text_walk::{append_scope, append_scope_line, append_task_line, begun, tree_with};
 use crate::told::info_at;
 use scope_checks::Readings;
 use scope_rules::types::capacity::LEVEL_LIMIT;
-use scope_rules::types::infos::ScopeInfo;
 use scope_rules::types::values::MAIN;
 use scope_rules::{Counts, ScopeId, Stage, TaskId};
 use std::alloc::{AllocError, Global};
@@ -76,7 +75,7 @@ fn with_scope<R: Readings>(readings: &R, sums: Sums, scope: ScopeId) -> Sums
     }
 }
 
-/// What all that is open sums up to.
+/// What all that is open sums up to. There are less than 2^32 scopes and tasks.
 #[tactic(auto, using(std::proofs::lemmas::Grind::common_steps, crate::proofs::Parted::sums_more))]
 fn sums_of<R: Readings>(readings: &R) -> Sums
     ensures { result ≡ sums (R.history readings.now) }
@@ -88,6 +87,7 @@ fn sums_of<R: Readings>(readings: &R) -> Sums
         finished: 0,
         never: 0,
     };
+    let _tasks = readings.tasks();
     let before = readings.retired_scopes();
     let last = readings.scopes();
     for index in 0..last - before {
@@ -170,7 +170,7 @@ fn append_awaited_tasks<R: Readings>(
     scope: ScopeId,
 ) -> Result<(), AllocError>
     requires { Passes (scope_check (R.history readings.now) scope) }
-    ensures { OnOk result (string_bytes text.new ≡ string_bytes text.old ++ flat_map (awaited_task (clock_of ages.now) (R.history readings.now)) (tasks_of (R.history readings.now) scope)) }
+    ensures { OnOk result (string_bytes text.new ≡ string_bytes text.old ++ flat_map (task_line (clock_of ages.now) (R.history readings.now) 1) (filter (is_unsettled (R.history readings.now) scope) (task_numbers (R.history readings.now)))) }
 {
     for index in 0..readings.tasks() as usize {
         let Some(task) = readings.task_at(scope, index) else {
@@ -181,26 +181,18 @@ fn append_awaited_tasks<R: Readings>(
     Ok(())
 }
 
-/// Appends the lines of the scope and of its tasks that wait or run, if there are such tasks. It is refused for memory
-/// alone.
-fn append_awaited_lines<R: Readings>(
-    readings: &R,
-    ages: &Ages<'_>,
-    text: &mut String,
-    info: ScopeInfo,
-) -> Result<(), AllocError>
-    requires { Passes (scope_check (R.history readings.now) info.scope) }
-    ensures { OnOk result (string_bytes text.new ≡ string_bytes text.old ++ awaited_lines (clock_of ages.now) (R.history readings.now) info) }
+/// Whether no task of the scope waits or runs.
+#[tactic(auto, using(crate::proofs::Awaiting::settled_is))]
+fn is_settled<R: Readings>(readings: &R, scope: ScopeId) -> bool
+    requires { Passes (scope_check (R.history readings.now) scope) }
+    ensures { result ≡ settled (R.history readings.now) scope }
 {
-    let counts = readings.counts(info.scope);
-    if counts.waiting == 0 && counts.running == 0 {
-        return Ok(());
-    }
-    append_scope_line(readings, ages, text, 0, info)?;
-    append_awaited_tasks(readings, ages, text, info.scope)
+    let counts = readings.counts(scope);
+    counts.waiting == 0 && counts.running == 0
 }
 
-/// Appends what is waited for of the scope, if it is not closed. It is refused for memory alone.
+/// Appends the lines of the scope and of its tasks that wait or run, if it is not closed and there are such tasks. It is
+/// refused for memory alone.
 #[tactic(auto, unfolding(crate::specs::TreeParts::awaited_scope))]
 fn append_awaited_scope<R: Readings>(
     readings: &R,
@@ -208,19 +200,23 @@ fn append_awaited_scope<R: Readings>(
     text: &mut String,
     scope: ScopeId,
 ) -> Result<(), AllocError>
-    ensures { OnOk result (string_bytes text.new ≡ string_bytes text.old ++ awaited_scope (clock_of ages.now) (R.history readings.now) scope) }
+    ensures { OnOk result (string_bytes text.new ≡ string_bytes text.old ++ awaited_if (clock_of ages.now) (R.history readings.now) scope) }
 {
+    let Some(info) = info_at(readings, Some(scope)) else {
+        return Ok(());
+    };
     if readings.closed(scope) {
         return Ok(());
     }
-    match info_at(readings, Some(scope)) {
-        Some(info) => append_awaited_lines(readings, ages, text, info),
-        None => Ok(()),
+    if is_settled(readings, info.scope) {
+        return Ok(());
     }
+    append_scope_line(readings, ages, text, 0, info)?;
+    append_awaited_tasks(readings, ages, text, info.scope)
 }
 
 /// Appends all that is waited for. It is refused for memory alone.
-#[tactic(auto, using(std::proofs::lemmas::Grind::common_steps, crate::proofs::Parted::lines_more))]
+#[tactic(auto, using(std::proofs::lemmas::Grind::common_steps, crate::proofs::Parted::scopes_more))]
 fn append_awaited<R: Readings>(
     readings: &R,
     ages: &Ages<'_>,

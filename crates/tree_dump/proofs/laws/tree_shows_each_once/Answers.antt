@@ -1,5 +1,5 @@
 -- The tree shows each once.
-use Rattle.tree_dump.proofs.Once.{shows_once}
+use Rattle.tree_dump.proofs.Lying.{shows_once}
 use Rattle.tree_dump.proofs.laws.tree_shows_each_once.Goals as goal
 
 pub returns : goal.returns

@@ -1,6 +1,7 @@
 -- The tasks before the index have their lines.
 use Rattle.std.proofs.Common.{◌++◌, ◌+◌, ◌-◌, ◌≡◌, string_bytes, take}
-use Rattle.tree_dump.specs.{TextTree.nested, clock_of, scope_line, tasks_lines, tasks_of}
+use Rattle.tree_dump.specs.{TextTree.nested, clock_of, scope_line, tasks_of}
+use Rattle.tree_dump.proofs.TextWalked.{tasks_lines}
 use Rattle.tree_dump.proofs.text_walk.+append_scope.Given as goal
 
 abbrev pub decreases-append_scope : goal.decreases-append_scope
