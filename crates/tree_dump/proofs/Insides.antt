@@ -82,9 +82,6 @@ module _ (L : Limits) (h : History) (legal : Legal L h) where
       let bound = scope_given (before h o.place) u x there in
       omega (arith, opening_number h p o is, bound.1)
 
-  later_opened : (u i : ℕ) (x : Opening) → opening (before h i) u ≡ Some x → opening h u ≡ Some x
-  later_opened u i x there = opening_since h u i x there
-
   -- the outermost scope of a task was opened in the scope of the task
   pub outermost_parent : (k p : ℕ) (f : Forking) → forking h k ≡ Some f → outermost h k ≡ Some p → parent h p ≡ Some f.scope
   unfolding parent surrounding
@@ -120,33 +117,6 @@ module _ (L : Limits) (h : History) (legal : Legal L h) where
           let same : Some forked.forked ≡ Some f = sym (forking_since h k o_of.place forked.forked forked.is) ∙ is in
           let one : forked.forked ≡ f = cc in
           ap (option_map (λ (g : Forking). g.scope)) forked.is ∙ ap (λ (g : Forking). Some g.scope) one
-
-  -- nothing lies around main's outermost scope
-  pub root_parent : (p : ℕ) → outermost h 0 ≡ Some p → parent h p ≡ None
-  unfolding parent surrounding
-  root_parent p found =
-      ap (option_and_then (around h)) next_of.unclosed.is
-      ∙ (ap (λ a. option_or (innermost (before h o_of.place) a) (forked_in (before h o_of.place) a)) next_of.unclosed.by
-      ∙ (ap (λ w. option_or w (forked_in (before h o_of.place) 0)) (alone (innermost (before h o_of.place) 0) refl) ∙ unforked (forking (before h o_of.place) 0) refl))
-    where
-      next_of : IsNext h 0 0 p
-      next_of = is_next h 0 0 p (outermost_is h 0 ∙ found)
-
-      o_of : Opening
-      o_of = next_of.unclosed.opened
-
-      alone : (w : Option ℕ) → innermost (before h o_of.place) 0 ≡ w → innermost (before h o_of.place) 0 ≡ None
-      alone None at = at
-      alone (Some u) at =
-          let inside = innermost_unclosed (before h o_of.place) 0 u at in
-          let still = unclosed_around L h p u o_of legal next_of.unclosed.is next_of.unclosed.unclosed (subst (λ a. HasUnclosed (before h o_of.place) a u) (sym next_of.unclosed.by) inside) in
-          let there = opening_since h u o_of.place inside.opened inside.is in
-          let first = next_of.first u (record { opened = inside.opened; is = there; by = inside.by; unclosed = still }) (scope_given h u inside.opened there).0 in
-          absurd (omega (arith, first, earlier_number p u o_of inside.opened next_of.unclosed.is inside.is))
-
-      unforked : (x : Option Forking) → forking (before h o_of.place) 0 ≡ x → option_map (λ (g : Forking). g.scope) x ≡ None
-      unforked None is = refl
-      unforked (Some f) is = absurd (main_unforked (before h o_of.place) 0 f refl is)
 
   -- what lies inside an unclosed scope of the same owner was opened in it
   pub inner_parent : (s p : ℕ) (o : Opening) → opening h s ≡ Some o → closed h s ≡ false → inner h s ≡ Some p → (parent h p ≡ Some s) × IsNext h o.actor s p

@@ -1,10 +1,10 @@
--- Each scope that is not closed lies inside an unclosed one, or is main's outermost: so the walk comes to it.
-use Rattle.std.proofs.Common.{[], ℕ, ◌++◌, ◌+◌, ◌<◌, ◌==◌, ◌∙◌, ◌∷◌, ◌≡◌, ◌≤◌, ◌⊎◌, Bool, List, None, Option, Some, ap, arith, cond, false, inl, inr, option_map, refl, slice_get, suc, sym, true, zero}
-use Rattle.tree_dump.specs.{Clock, Forking, History, Legal, Limits, Never, Opening, ScopeInfo, around, before, closed, filter, forked_count, forked_in}
-use Rattle.tree_dump.specs.{forking, info, info_of, inner, innermost, is_running, is_task_of, level, next_unclosed, opening, option_and_then, option_map_or, option_or, outermost, parent}
+-- Each scope that is not closed lies inside an unclosed one, or is main's outermost.
+use Rattle.std.proofs.Common.{[], ℕ, ◌+◌, ◌<◌, ◌==◌, ◌∙◌, ◌∷◌, ◌≡◌, ◌≤◌, ◌⊎◌, Bool, List, None, Option, Some, ap, arith, cond, false, inl, inr, option_map, refl, slice_get, suc, sym, true, zero}
+use Rattle.tree_dump.specs.{Forking, History, Legal, Limits, Never, Opening, around, before, closed, filter, forked_count, forked_in}
+use Rattle.tree_dump.specs.{forking, inner, innermost, is_running, is_task_of, level, next_unclosed, opening, option_and_then, option_map_or, option_or, outermost, parent}
 use Rattle.tree_dump.specs.{stage, stage_of, surrounding, task_numbers, tasks_of}
 use Rattle.tree_dump.proofs.Lemmas.{HasUnclosed, IsOpened, cases_lt, forked_after, forking_since, get_or-range_with_len, inner_closed, innermost_later, innermost_none, innermost_unclosed, legal_before}
-use Rattle.tree_dump.proofs.Lemmas.{length-range_with_len, level_by_parent, level_within, next_is, opened_before, opened_first, opening_row, opening_since, outermost_is, parent_smaller, scope_given, slice_get-get_or}
+use Rattle.tree_dump.proofs.Lemmas.{length-range_with_len, level_by_parent, next_is, opened_before, opened_first, opening_row, opening_since, outermost_is, parent_smaller, scope_given, slice_get-get_or}
 use Rattle.tree_dump.proofs.Lemmas.{surrounding_opened, unclosed_before}
 
 -- ---- the tasks of a scope
@@ -38,10 +38,7 @@ not_then false c then fails = refl
 never : (b : Bool) → b ≡ true → b ≡ false → ⊥
 never b holds fails = absurd cc
 
-never_none : (x : ℕ) (o : Option ℕ) → o ≡ None → o ≡ Some x → ⊥
-never_none x o none some = absurd cc
-
-module _ (L : Limits) (c : Clock) (h : History) (legal : Legal L h) where
+module _ (L : Limits) (h : History) (legal : Legal L h) where
   -- an unclosed scope of the actor was unclosed when a later one was opened
   stood : (a u s : ℕ) (o : Opening) → HasUnclosed h a u → opening h s ≡ Some o → u < s → HasUnclosed (before h o.place) a u
   stood a u s o it is less = record {
@@ -81,90 +78,51 @@ module _ (L : Limits) (c : Clock) (h : History) (legal : Legal L h) where
   parent_there s p found at =
       opened_before h at.0.place p (surrounding_opened L (before h at.0.place) at.0.actor p (legal_before L h at.0.place legal) (ap (option_and_then (around h)) (sym at.1) ∙ found))
 
-  info_there : (s : ℕ) → IsOpened h s → (i : ScopeInfo) × (info h s ≡ Some i)
-  unfolding info
-  info_there s it = (info_of h s it.opened, ap (option_map (info_of h s)) it.is)
+  unforked : (a i : ℕ) → forked_in (before h i) a ≡ None → is_running (stage (before h i) a) ≡ true → ⊥
+  unfolding stage
+  unforked a i none runs = by (forking (before h i) a) refl none
+    where
+      by : (f : Option Forking) → forking (before h i) a ≡ f → option_map (λ (g : Forking). g.scope) f ≡ None → ⊥
+      by None is none = let idle : is_running (stage (before h i) a) ≡ false = ap (λ o. is_running (option_map_or (stage_of (before h i) a) o Never)) is in absurd (never (is_running (stage (before h i) a)) runs idle)
+      by (Some f) is none = absurd cc
 
-  -- ---- the walk comes to each, whatever is said of it that goes on inwards from main's outermost scope
+  either_none : (o p : Option ℕ) → option_or o p ≡ None → (o ≡ None) × (p ≡ None)
+  either_none None p none = (refl, none)
+  either_none (Some x) p none = absurd cc
 
-  module _ (IsIn : ℕ → ℕ → ℕ → Type 0)
-      (from_root : (s : ℕ) → outermost h 0 ≡ Some s → IsIn 15 0 s)
-      (to_inner : (n depth s t : ℕ) (i : ScopeInfo) → info h s ≡ Some i → inner h s ≡ Some t → IsIn (suc n) depth s → IsIn n (depth + 1) t)
-      (to_under : (n depth s t index k : ℕ) (i : ScopeInfo) → info h s ≡ Some i → slice_get (tasks_of h s) index ≡ Some k → outermost h k ≡ Some t → IsIn (suc n) depth s → IsIn n (depth + 1 + 1) t) where
-    -- what the walk has still to say of the scope at its level is in the text
-    abbrev IsReached : ℕ → Type 0
-    IsReached s = (n depth : ℕ) × (n + level h s ≡ 16) × IsIn n depth s
+  -- without a parent it is main's outermost one
+  pub root_is : (s : ℕ) (o : Opening) → opening h s ≡ Some o → closed h s ≡ false → parent h s ≡ None → outermost h 0 ≡ Some s
+  unfolding parent surrounding
+  root_is s o is live alone =
+      let nothing : option_or (innermost (before h o.place) o.actor) (forked_in (before h o.place) o.actor) ≡ None = ap (option_and_then (around h)) (sym is) ∙ alone in
+      let none = either_none (innermost (before h o.place) o.actor) (forked_in (before h o.place) o.actor) nothing in
+      let main : o.actor ≡ 0 = elim (opening_row L h s o legal is) [
+        | inl main ↦ main
+        | inr runs ↦ absurd (unforked o.actor o.place none.1 runs)
+      ] in
+      ap (outermost h) (sym main) ∙ first_is s o is live none.0
 
-    unforked : (a i : ℕ) → forked_in (before h i) a ≡ None → is_running (stage (before h i) a) ≡ true → ⊥
-    unfolding stage
-    unforked a i none runs = by (forking (before h i) a) refl none
-      where
-        by : (f : Option Forking) → forking (before h i) a ≡ f → option_map (λ (g : Forking). g.scope) f ≡ None → ⊥
-        by None is none = let idle : is_running (stage (before h i) a) ≡ false = ap (λ o. is_running (option_map_or (stage_of (before h i) a) o Never)) is in absurd (never (is_running (stage (before h i) a)) runs idle)
-        by (Some f) is none = absurd cc
+  forked_there : (a i p : ℕ) → forked_in (before h i) a ≡ Some p → (f : Forking) × (forking h a ≡ Some f) × (f.scope ≡ p)
+  forked_there a i p found = by (forking (before h i) a) refl found
+    where
+      by : (f : Option Forking) → forking (before h i) a ≡ f → option_map (λ (g : Forking). g.scope) f ≡ Some p → (f : Forking) × (forking h a ≡ Some f) × (f.scope ≡ p)
+      by None is found = absurd cc
+      by (Some f) is found = let same : f.scope ≡ p = cc in (f, forking_since h a i f is, same)
 
-    either_none : (o p : Option ℕ) → option_or o p ≡ None → (o ≡ None) × (p ≡ None)
-    either_none None p none = (refl, none)
-    either_none (Some x) p none = absurd cc
+  -- it lies inside its parent, or inside a task of it
+  pub child_of : (s p : ℕ) (o : Opening) → opening h s ≡ Some o → closed h s ≡ false → parent h s ≡ Some p → (inner h p ≡ Some s) ⊎ ((index k : ℕ) × (slice_get (tasks_of h p) index ≡ Some k) × (outermost h k ≡ Some s))
+  unfolding parent surrounding
+  child_of s p o is live inside = by (innermost (before h o.place) o.actor) refl (ap (option_and_then (around h)) (sym is) ∙ inside)
+    where
+      by : (x : Option ℕ) → innermost (before h o.place) o.actor ≡ x → option_or x (forked_in (before h o.place) o.actor) ≡ Some p → (inner h p ≡ Some s) ⊎ ((index k : ℕ) × (slice_get (tasks_of h p) index ≡ Some k) × (outermost h k ≡ Some s))
+      by (Some t) at found = let parent_is : t ≡ p = cc in inl (inner_is s p o is live (at ∙ ap Some parent_is) (parent_smaller L h s p legal inside).1)
+      by None at found =
+          let f = forked_there o.actor o.place p found in
+          let listed = is_listed h o.actor p f.0 f.1 f.2 in
+          inr (listed.0, o.actor, listed.1, first_is s o is live at)
 
-    -- without a parent it is main's outermost one
-    at_root : (s : ℕ) (o : Opening) → opening h s ≡ Some o → closed h s ≡ false → parent h s ≡ None → IsReached s
-    unfolding parent surrounding
-    at_root s o is live alone =
-        let nothing : option_or (innermost (before h o.place) o.actor) (forked_in (before h o.place) o.actor) ≡ None = ap (option_and_then (around h)) (sym is) ∙ alone in
-        let none = either_none (innermost (before h o.place) o.actor) (forked_in (before h o.place) o.actor) nothing in
-        let main : o.actor ≡ 0 = elim (opening_row L h s o legal is) [
-          | inl main ↦ main
-          | inr runs ↦ absurd (unforked o.actor o.place none.1 runs)
-        ] in
-        let level_one : level h s ≡ 1 = level_by_parent L h s legal ∙ ap (λ x. option_map_or (λ p. level h p + 1) x 1) alone in
-        (15, 0, omega (arith, level_one), from_root s (ap (outermost h) (sym main) ∙ first_is s o is live none.0))
-
-    forked_there : (a i p : ℕ) → forked_in (before h i) a ≡ Some p → (f : Forking) × (forking h a ≡ Some f) × (f.scope ≡ p)
-    forked_there a i p found = by (forking (before h i) a) refl found
-      where
-        by : (f : Option Forking) → forking (before h i) a ≡ f → option_map (λ (g : Forking). g.scope) f ≡ Some p → (f : Forking) × (forking h a ≡ Some f) × (f.scope ≡ p)
-        by None is found = absurd cc
-        by (Some f) is found = let same : f.scope ≡ p = cc in (f, forking_since h a i f is, same)
-
-    -- inside its parent, which is not closed either
-    at_parent : (s p : ℕ) (o : Opening) → opening h s ≡ Some o → closed h s ≡ false → parent h s ≡ Some p → IsReached p → IsReached s
-    unfolding parent surrounding
-    at_parent s p o is live inside reached =
-        let it = parent_there s p inside (o, is) in
-        let i = info_there p it in
-        let deeper : level h s ≡ level h p + 1 = level_by_parent L h s legal ∙ ap (λ x. option_map_or (λ q. level h q + 1) x 1) inside in
-        let within = level_within L h s legal (record { opened = o; is = is }) in
-        by reached.0 reached.1 (omega (arith, reached.2, deeper, within)) (omega (arith, reached.2, deeper)) reached.3 i (innermost (before h o.place) o.actor) refl (around_is o is inside)
-      where
-        around_is : (o : Opening) → opening h s ≡ Some o → parent h s ≡ Some p → option_or (innermost (before h o.place) o.actor) (forked_in (before h o.place) o.actor) ≡ Some p
-        around_is o is inside = ap (option_and_then (around h)) (sym is) ∙ inside
-
-        by : (n depth : ℕ) → 0 < n → n + level h s ≡ 17 → IsIn n depth p → (i : (j : ScopeInfo) × (info h p ≡ Some j)) → (x : Option ℕ) → innermost (before h o.place) o.actor ≡ x → option_or x (forked_in (before h o.place) o.actor) ≡ Some p → IsReached s
-        by zero depth more same in_text i x at found = absurd (omega (arith, more))
-        by (suc n) depth more same in_text i (Some t) at found =
-            let parent_is : t ≡ p = cc in
-            (n, depth + 1, omega (arith, same), to_inner n depth p s i.0 i.1 (inner_is s p o is live (at ∙ ap Some parent_is) (parent_smaller L h s p legal inside).1) in_text)
-        by (suc n) depth more same in_text i None at found =
-            let f = forked_there o.actor o.place p found in
-            let listed = is_listed h o.actor p f.0 f.1 f.2 in
-            (n, depth + 1 + 1, omega (arith, same), to_under n depth p s listed.0 o.actor i.0 i.1 listed.1 (first_is s o is live at) in_text)
-
-    pub reached : (m s : ℕ) (o : Opening) → s < m → opening h s ≡ Some o → closed h s ≡ false → IsReached s
-    reached zero s o less is live = absurd (omega (arith, less))
-    reached (suc m) s o less is live = by (parent h s) refl (reached m)
-      where
-        by : (x : Option ℕ) → parent h s ≡ x → ((t : ℕ) (q : Opening) → t < m → opening h t ≡ Some q → closed h t ≡ false → IsReached t) → IsReached s
-        by None alone before_it = at_root s o is live alone
-        by (Some p) inside before_it =
-            let it = parent_there s p inside (o, is) in
-            let smaller = parent_smaller L h s p legal inside in
-            at_parent s p o is live inside (before_it p it.opened (omega (arith, smaller.1, less)) it.is (not_then (closed h p) (closed h s) (inner_closed L h s p legal inside) live))
-
-pub opened_info : (h : History) (s : ℕ) (i : ScopeInfo) → info h s ≡ Some i → (o : Opening) × (opening h s ≡ Some o)
-unfolding info
-opened_info h s i is = by (opening h s) refl is
-  where
-    by : (o : Option Opening) → opening h s ≡ o → option_map (info_of h s) o ≡ Some i → (o : Opening) × (opening h s ≡ Some o)
-    by None at is = absurd cc
-    by (Some o) at is = (o, at)
+  -- its parent is not closed either, and lies a level higher
+  pub parent_lives : (s p : ℕ) (o : Opening) → opening h s ≡ Some o → closed h s ≡ false → parent h s ≡ Some p → (q : Opening) × (opening h p ≡ Some q) × (closed h p ≡ false) × (level h s ≡ level h p + 1)
+  parent_lives s p o is live inside =
+      let it = parent_there s p inside (o, is) in
+      (it.opened, it.is, not_then (closed h p) (closed h s) (inner_closed L h s p legal inside) live, level_by_parent L h s legal ∙ ap (λ x. option_map_or (λ q. level h q + 1) x 1) inside)

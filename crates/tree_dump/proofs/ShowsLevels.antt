@@ -163,8 +163,8 @@ module _ (L : Limits) (c : Clock) (h : History) (levels s : ℕ) (legal : Legal 
   shows place from =
       record {
         whole = refl;
-        scopes = λ t o is. lying L h legal s c live t o is;
-        tasks = λ k f is. as_its_scope h k f is 16 0 (Some s) ∙ (let it = forked_opened L h k f legal is in lying L h legal s c live f.scope it.opened it.is);
+        scopes = λ t o is. lying L h legal s live t o is;
+        tasks = λ k f is. as_its_scope h k f is 16 0 (Some s) ∙ (let it = forked_opened L h k f legal is in lying L h legal s live f.scope it.opened it.is);
         shown = ap (with_sums c h) (from ∙ some_levels);
       }
 

@@ -1,5 +1,5 @@
 -- What the walk finds at a place.
-use Rattle.std.proofs.Common.{ℕ, ◌∙◌, ◌≡◌, IsSome, None, Option, Some, ap, arith, option_and_then, option_map, refl, suc, sym, zero}
+use Rattle.std.proofs.Common.{ℕ, ◌∙◌, ◌≡◌, None, Option, Some, ap, arith, option_and_then, option_map, refl, suc, sym, zero}
 use Rattle.tree_dump.specs.{Clock, Data, History, Opening, ScopeInfo, Tree.nested, info, info_of, inner, null, opening, option_map_or, scope_object, scope_shown, scope_since, tasks_shown}
 
 pub info_scope : (h : History) (s : ℕ) (i : ScopeInfo) → info h s ≡ Some i → i.scope ≡ s
@@ -14,9 +14,6 @@ info_scope h s i is = by (opening h s) is
 pub info_here : (h : History) (place : Option ℕ) (i : ScopeInfo) → option_and_then (info h) place ≡ Some i → info h i.scope ≡ Some i
 info_here h None i e = absurd cc
 info_here h (Some s) i e = ap (info h) (info_scope h s i e) ∙ e
-
-pub info_there : (h : History) (place : Option ℕ) (i : ScopeInfo) → option_and_then (info h) place ≡ Some i → IsSome (info h i.scope)
-info_there h place i e = rw (info_here h place i e) refl
 
 pub nested_none : (by : Option Clock) (h : History) (levels : ℕ) (place : Option ℕ) → levels ≡ 0 → nested by h levels place ≡ null
 unfolding nested

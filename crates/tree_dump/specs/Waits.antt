@@ -1,6 +1,6 @@
 -- In which calls actors wait, and how long.
 use Rattle.std.specs.Prelude.{[], ℕ, ◌++◌, ◌-◌, List, None, Option, Some, codes, option_map}
-use Rattle.tree_dump.specs.Terms.{Close, CurrentWait, History, Join, NextDone, Permit, Receive, Ring, Running, Send, Sleep, Stage, Stop, WaitCall, Waits, option_and_then}
+use Rattle.tree_dump.specs.Terms.{Close, CurrentWait, History, Join, NextDone, Permit, Receive, Ring, Running, Send, Sleep, Stage, Stop, WaitCall, Waits}
 use Rattle.tree_dump.specs.Ages.{Clock, reading_in, span_text}
 
 -- the same readings, and these waits

@@ -1,6 +1,6 @@
 -- What is waited for of the scope is written.
 use Rattle.std.proofs.Common.{◌++◌, ◌∙◌, ap, append_assoc, string_bytes, sym}
-use Rattle.tree_dump.specs.{awaited_if, awaited_lines, clock_of, filter, flat_map, is_unsettled, scope_line, task_line, task_numbers}
+use Rattle.tree_dump.specs.{clock_of, filter, flat_map, is_unsettled, scope_line, task_line, task_numbers}
 use Rattle.tree_dump.proofs.Lemmas.{on_ok_weaker}
 use Rattle.tree_dump.proofs.{Awaiting.awaiting, Awaiting.not_awaiting, Walked.info_scope}
 use Rattle.tree_dump.proofs.parts.append_awaited_scope.Goals as goal
