@@ -1,5 +1,5 @@
 -- Parts of the tree, as text, and what all that is open sums up to.
-use Rattle.std.specs.Prelude.{[], ℕ, ◌&&◌, ◌++◌, ◌+◌, Bool, List, None, Option, Some, codes, count_by, false, if◌then◌else◌, is_some, min, not, true}
+use Rattle.std.specs.Prelude.{[], ℕ, ◌&&◌, ◌++◌, Bool, List, None, Option, Some, codes, count_by, false, if◌then◌else◌, is_some, min, not, true}
 use Rattle.tree_dump.specs.Terms.{Finished, History, LEVEL_LIMIT, Never, Running, ScopeInfo, Stage, Sums, TreePart, Waiting, closed, decimal, filter, flat_map, forking, info, is_stage, is_unsettled, moment, opening}
 use Rattle.tree_dump.specs.Terms.{option_map_or, outermost, scope_numbers, settled, stage, task_numbers}
 use Rattle.tree_dump.specs.{Ages.Clock, TextLines.moment_line, TextTree.nested, TextTree.scope_line, TextTree.task_line, TextTree.tree_by}
