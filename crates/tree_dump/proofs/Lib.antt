@@ -12,8 +12,6 @@ mod Once
 mod Parted
 pub mod Awaits
 mod TimedAdds
-mod Opened
-mod Summed
 mod Awaiting
 mod Lying
 mod ShowsLevels

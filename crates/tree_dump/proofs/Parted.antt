@@ -1,15 +1,12 @@
 -- What a part of the tree has, one number after the other.
-use Rattle.std.proofs.Common.{[], ℕ, ◌++◌, ◌+◌, ◌∙◌, ◌∷◌, ◌≡◌, Bool, List, Some, ap, append-nil, cond, false, fold, refl, slice_get, sym, take, true}
+use Rattle.std.proofs.Common.{[], ℕ, ◌++◌, ◌+◌, ◌∙◌, ◌∷◌, ◌≡◌, Bool, List, Some, ap, append-nil, cond, count_by, false, refl, slice_get, sym, take, true}
 use Rattle.tree_dump.specs.{filter, flat_map, range_with_len}
+use Rattle.std.proofs.lemmas.List.Sums.{sum_by_push}
 use Rattle.tree_dump.proofs.Lemmas.{filter-append, flat_map-append, flat_map_more, range_push, take_at}
 
-fold_push : {A : Type 0} (f : A → ℕ → A) (x : A) (ns : List ℕ) (n : ℕ) → fold f x (ns ++ n ∷ []) ≡ f (fold f x ns) n
-fold_push f x [] n = refl
-fold_push f x (m ∷ ns) n = fold_push f (f x m) ns n
-
 -- one number more of a range
-pub sums_more : {A : Type 0} (f : A → ℕ → A) (x : A) (a n : ℕ) → fold f x (range_with_len a (n + 1)) ≡ f (fold f x (range_with_len a n)) (a + n)
-sums_more f x a n = ap (fold f x) (range_push a n) ∙ fold_push f x (range_with_len a n) (a + n)
+pub count_more : (p : ℕ → Bool) (a n : ℕ) → count_by p (range_with_len a (n + 1)) ≡ count_by p (range_with_len a n) + cond (p (a + n)) 1 0
+count_more p a n = ap (count_by p) (range_push a n) ∙ sum_by_push (λ x. cond (p x) 1 0) (range_with_len a n) (a + n)
 
 pub scopes_more : (p : ℕ → Bool) (f : ℕ → List ℕ) (a n : ℕ) → flat_map f (filter p (range_with_len a (n + 1))) ≡ flat_map f (filter p (range_with_len a n)) ++ cond (p (a + n)) (f (a + n)) []
 scopes_more p f a n =

@@ -1,52 +1,28 @@
 -- Parts of the tree, as text, and what all that is open sums up to.
-use Rattle.std.specs.Prelude.{[], ℕ, ◌&&◌, ◌++◌, ◌+◌, Bool, List, None, Option, Some, codes, false, if◌then◌else◌, is_some, length, min, not, true}
-use Rattle.tree_dump.specs.Terms.{Counts, Finished, History, LEVEL_LIMIT, Never, Running, ScopeInfo, Stage, Sums, TreePart, Waiting, closed, counts, decimal, filter, flat_map, info, is_stage, is_unsettled, moment, opening}
-use Rattle.tree_dump.specs.Terms.{option_map_or, outermost, scope_numbers, settled, stage, task_numbers, tasks_of}
+use Rattle.std.specs.Prelude.{[], ℕ, ◌&&◌, ◌++◌, Bool, List, None, Option, Some, codes, count_by, false, if◌then◌else◌, is_some, min, not, true}
+use Rattle.tree_dump.specs.Terms.{Finished, History, LEVEL_LIMIT, Never, Running, ScopeInfo, Stage, Sums, TreePart, Waiting, closed, decimal, filter, flat_map, forking, info, is_stage, is_unsettled, moment, opening}
+use Rattle.tree_dump.specs.Terms.{option_map_or, outermost, scope_numbers, settled, stage, task_numbers}
 use Rattle.tree_dump.specs.{Ages.Clock, TextLines.moment_line, TextTree.nested, TextTree.scope_line, TextTree.task_line, TextTree.tree_by}
 use Rattle.tree_dump.specs.declared.parts.TreePart.TheVariants as part
 
 -- ---- all that is open
 
-abbrev pub no_sums : Sums
-no_sums = record { scopes = 0; waiting = 0; running = 0; finished = 0; never = 0 }
+abbrev pub is_unclosed : History → ℕ → Bool
+is_unclosed h s = not (closed h s)
 
--- it counts no further than 2^64 - 1, which are more than there can be
-abbrev pub added : ℕ → ℕ → ℕ
-added some others = min (some + others) 18446744073709551615
+-- task k is at the stage, and its scope is not closed
+abbrev pub is_shown : History → Stage → ℕ → Bool
+is_shown h x k = option_map_or (λ f. is_stage x (stage h k) && not (closed h f.scope)) (forking h k) false
 
--- one scope more, with its tasks
-abbrev pub with_counts : Sums → Counts → Sums
-with_counts u c = record {
-  scopes = added u.scopes 1;
-  waiting = added u.waiting c.waiting;
-  running = added u.running c.running;
-  finished = added u.finished c.finished;
-  never = added u.never c.never;
-}
-
--- scope s more, if it is not closed
-unfoldable pub with_scope : History → Sums → ℕ → Sums
-with_scope h u s = if closed h s then u else option_map_or (λ i. with_counts u (counts h i.scope)) (info h s) u
-
--- the scopes that are not closed, of these
-abbrev pub unclosed : History → List ℕ → List ℕ
-unclosed h scopes = filter (λ s. not (closed h s)) scopes
-
--- the tasks of these scopes at a stage
-abbrev pub tasks_at : History → Stage → List ℕ → List ℕ
-tasks_at h x scopes = filter (λ k. is_stage x (stage h k)) (flat_map (tasks_of h) scopes)
-
--- how many scopes are not closed, and how many tasks of those are at each stage
+-- how many scopes are not closed, and how many of their tasks are at each stage
 abbrev pub sums : History → Sums
-sums h =
-    let open_scopes = unclosed h (scope_numbers h) in
-    record {
-      scopes = length open_scopes;
-      waiting = length (tasks_at h Waiting open_scopes);
-      running = length (tasks_at h Running open_scopes);
-      finished = length (tasks_at h Finished open_scopes);
-      never = length (tasks_at h Never open_scopes);
-    }
+sums h = record {
+  scopes = count_by (is_unclosed h) (scope_numbers h);
+  waiting = count_by (is_shown h Waiting) (task_numbers h);
+  running = count_by (is_shown h Running) (task_numbers h);
+  finished = count_by (is_shown h Finished) (task_numbers h);
+  never = count_by (is_shown h Never) (task_numbers h);
+}
 
 abbrev pub awaited_sums : Sums → List ℕ
 awaited_sums u = codes "open in all: scopes " ++ decimal u.scopes ++ codes ", tasks waiting " ++ decimal u.waiting ++ codes ", running " ++ decimal u.running

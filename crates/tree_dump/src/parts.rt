@@ -1,7 +1,7 @@
 //! Parts of the tree as text: what is waited for alone, or some levels. A last line sums up all that is open.
-ghost use Rattle.std.specs.Prelude.{◌++◌, ◌≡◌, IfOk, OnOk, Some, string_bytes};
-ghost use Rattle.tree_dump.specs.{Passes, added, awaited, awaited_if, awaited_sums, awaited_task, clock_of, ended_sums, filter, flat_map, is_unsettled, levels_from, part_text, scope_check};
-ghost use Rattle.tree_dump.specs.{settled, stands, sums, sums_text, task_line, task_numbers, waits, with_counts, with_scope};
+ghost use Rattle.std.specs.Prelude.{◌++◌, ◌≡◌, IfOk, OnOk, Some, count_by, string_bytes};
+ghost use Rattle.tree_dump.specs.{Passes, awaited, awaited_if, awaited_sums, awaited_task, clock_of, ended_sums, filter, flat_map, is_shown, is_stage, is_unclosed, is_unsettled, levels_from, part_text, scope_check};
+ghost use Rattle.tree_dump.specs.{scope_numbers, settled, stands, sums, sums_text, task_line, task_numbers, waits};
 
 use crate::ages::Ages;
 use crate::text_walk::{append_scope, append_scope_line, append_task_line, begun, tree_with};
@@ -9,7 +9,7 @@ use crate::told::info_at;
 use scope_checks::Readings;
 use scope_rules::types::capacity::LEVEL_LIMIT;
 use scope_rules::types::values::MAIN;
-use scope_rules::{Counts, ScopeId, Stage, TaskId};
+use scope_rules::{ScopeId, Stage, TaskId};
 use std::alloc::{AllocError, Global};
 use std::fmt;
 
@@ -39,61 +39,73 @@ pub struct Sums {
     pub never: u64,
 }
 
-/// So many together. It counts no further than 2^64 - 1, which are more than there can be.
-fn added(some: u64, others: u32) -> u64
-    ensures { result ≡ added some others }
+/// How many scopes are not closed.
+#[tactic(auto, using(std::proofs::lemmas::Grind::common_steps, crate::proofs::Parted::count_more))]
+fn open_scopes<R: Readings>(readings: &R) -> u64
+    ensures { result ≡ count_by (is_unclosed (R.history readings.now)) (scope_numbers (R.history readings.now)) }
 {
-    some.saturating_add(u64::from(others))
-}
-
-impl Sums {
-    /// One scope more, with its tasks.
-    fn with(self, counts: Counts) -> Sums
-        ensures { result ≡ with_counts self counts }
-    {
-        Sums {
-            scopes: added(self.scopes, 1),
-            waiting: added(self.waiting, counts.waiting),
-            running: added(self.running, counts.running),
-            finished: added(self.finished, counts.finished),
-            never: added(self.never, counts.never),
+    let before = readings.retired_scopes();
+    let last = readings.scopes();
+    let mut count = 0;
+    for index in 0..last - before {
+        if !readings.closed(before + 1 + index) {
+            count += 1;
         }
     }
+    count
 }
 
-/// The sums with this scope, if it is not closed.
-#[tactic(auto, unfolding(crate::specs::TreeParts::with_scope))]
-fn with_scope<R: Readings>(readings: &R, sums: Sums, scope: ScopeId) -> Sums
-    ensures { result ≡ with_scope (R.history readings.now) sums scope }
+/// Whether the stage is the one that is wanted.
+fn is_stage(wanted: Stage, stage: Stage) -> bool
+    ensures { result ≡ is_stage wanted stage }
 {
-    if readings.closed(scope) {
-        return sums;
-    }
-    match info_at(readings, Some(scope)) {
-        Some(info) => sums.with(readings.counts(info.scope)),
-        None => sums,
+    match wanted {
+        Stage::Never => matches!(stage, Stage::Never),
+        Stage::Waiting => matches!(stage, Stage::Waiting),
+        Stage::Running => matches!(stage, Stage::Running),
+        Stage::Finished => matches!(stage, Stage::Finished),
     }
 }
 
-/// What all that is open sums up to. There are less than 2^32 scopes and tasks.
-#[tactic(auto, using(std::proofs::lemmas::Grind::common_steps, crate::proofs::Parted::sums_more))]
+/// Whether the task is at the stage, and its scope is not closed.
+fn is_shown<R: Readings>(readings: &R, wanted: Stage, task: TaskId) -> bool
+    ensures { result ≡ is_shown (R.history readings.now) wanted task }
+{
+    match readings.forking(task) {
+        Some(forking) => {
+            is_stage(wanted, readings.stage(task)) && !readings.closed(forking.scope)
+        }
+        None => false,
+    }
+}
+
+/// How many such tasks there are. It looks at each task since the base.
+#[tactic(auto, using(std::proofs::lemmas::Grind::common_steps, crate::proofs::Parted::count_more))]
+fn tasks_shown<R: Readings>(readings: &R, wanted: Stage) -> u64
+    ensures { result ≡ count_by (is_shown (R.history readings.now) wanted) (task_numbers (R.history readings.now)) }
+{
+    let before = readings.retired_tasks();
+    let last = readings.tasks();
+    let mut count = 0;
+    for index in 0..last - before {
+        if is_shown(readings, wanted, before + 1 + index) {
+            count += 1;
+        }
+    }
+    count
+}
+
+/// What all that is open sums up to.
 fn sums_of<R: Readings>(readings: &R) -> Sums
     ensures { result ≡ sums (R.history readings.now) }
 {
-    let mut sums = Sums {
-        scopes: 0,
-        waiting: 0,
-        running: 0,
-        finished: 0,
-        never: 0,
-    };
-    let _tasks = readings.tasks();
-    let before = readings.retired_scopes();
-    let last = readings.scopes();
-    for index in 0..last - before {
-        sums = with_scope(readings, sums, before + 1 + index);
+    Sums {
+        scopes: open_scopes(readings),
+        waiting: tasks_shown(readings, Stage::Waiting),
+        running: tasks_shown(readings, Stage::Running),
+        finished: tasks_shown(readings, Stage::Finished),
+        never: tasks_shown(readings, Stage::Never),
     }
-    sums
 }
 
 /// Appends what all that is open sums up to. It is refused for memory alone.
