@@ -8,7 +8,7 @@ returns-in-Ok-shown_of_script-clause-ok g c = record {
     script = c.in-Ok.script.items;
     read = c.in-Ok.ensures.ok.0;
     all = c.in-Ok.ensures.ok.1;
-    is = subst (λ (b : List ℕ). IsShown c.args.view c.args.limits (realm_of_script c.args.limits b).history (stamps_of_script c.args.limits b) _) c.deref-2.ensures.value c.in-Ok-shown_of_script.ensures.text;
+    is = subst (λ (b : List ℕ). IsShown c.args.view c.args.limits (realm_of_script c.args.limits b).history (stamps_of_script c.args.limits b) (string_bytes c.in-Ok-shown_of_script.shown.text)) c.deref-2.ensures.value c.in-Ok-shown_of_script.ensures.text;
     counted = c.in-Ok-shown_of_script.ensures.count ∙ ap (count_of_script c.args.limits) c.deref-2.ensures.value;
   };
   noted = subst (Appends (g.E.Write.contents c.args.errors.now.inner) (g.E.Write.contents c.write_notes.new.errors.inner)) (ap (notes_text c.args.wanted c.args.limits) c.deref.ensures.value) c.in-Ok-write_notes.ensures.said;
