@@ -1,5 +1,5 @@
 """All that happened in a run is in its picture and in its trace, once, and nothing else: each band and bar with its state, each
-mark, arrow and slice. What is to be there comes from the script and its replies alone, which tests compare with the rules.
+mark, arrow and slice; and folded rows count each task once. What is to be there comes from the script and its replies alone, which tests compare with the rules.
 
     python3 crates/scopectl/drawn.py PROGRAM SEEDS SCRIPT..     for so many random scripts, and for these
 """
@@ -175,6 +175,20 @@ def in_picture(text):
     return Counter(labels + marks + [("arrow", rows[int(a)], rows[int(b)]) for a, b in re.findall("<path class='reach' d='M\\d+ (\\d+)V(\\d+)'/>", text)])
 
 
+def sums(tasks):
+    """How many tasks there are, how many of them failed, and how many have not ended."""
+    return Counter(tasks=len(tasks), failed=sum(it["state"] == "failed" for it in tasks), unended=sum("ended" not in it and not it["never"] for it in tasks))
+
+
+def in_folded(run, text):
+    """The same as a folded picture has them: tasks that begin a row, and what the rows say that lies in them."""
+    labels = re.findall("<text class='(?:scope|task)' [^>]*>(.*?)<title>", text)
+    has = sums([run.tasks[int(number)] for number in re.findall("^task (\\d+) ", "\n".join(labels), re.M)])
+    for tasks, failed, unended in re.findall(" \\((\\d+) tasks, (\\d+) failed(?:, (\\d+) not ended)?\\)$", "\n".join(labels), re.M):
+        has.update(tasks=int(tasks), failed=int(failed), unended=int(unended or 0))
+    return has
+
+
 def in_trace(text):
     """The slices, marks and arrows of a trace."""
     has = Counter()
@@ -194,8 +208,9 @@ def main(program, seeds, *names):
         lines = [line for line in lines if not line.startswith("#")]
         run = Run(program, lines)
         picture = in_picture(says(program, ["timeline", "--quiet", "--lenient", "--rows", "1000"], lines))
+        folded = in_folded(run, says(program, ["timeline", "--quiet", "--lenient", "--rows", "1"], lines))
         trace = in_trace(says(program, ["trace", "--quiet", "--lenient"], lines))
-        for what, wanted, has in (("picture", picture_of(run), picture), ("trace", trace_of(run), trace)):
+        for what, wanted, has in (("picture", picture_of(run), picture), ("folded picture", sums(list(run.tasks.values())), folded), ("trace", trace_of(run), trace)):
             if wanted != has:
                 failed = True
                 print(f"test: {program}: the {what} of {name} lacks {dict(wanted - has)}, and has besides {dict(has - wanted)}", file=sys.stderr)

@@ -3,6 +3,7 @@ mod Befores
 mod Searched
 mod Existing
 mod Firsts
+mod Coming
 mod Covered
 mod Lemmas
 mod Folding

@@ -1,6 +1,6 @@
 -- What the page of a run reads: a row for each task and for each scope, in the words of the rules.
 use Rattle.std.specs.Prelude.{◌+◌, ◌≡◌}
-use Rattle.run_picture.specs.Words.{ℕ, Columns, HasFirsts, History, Landmark, Legal, Limits, List, Places, ScopeRow, Some, TaskRow, cancellation, first_place, forked_count, forking, length}
+use Rattle.run_picture.specs.Words.{ℕ, Cause, Columns, HasFirsts, History, Landmark, Legal, Limits, List, Opening, Places, ScopeRow, Some, TaskRow, around, cancellation, false, first_place, forked_count, forking, length}
 use Rattle.run_picture.specs.Words.{opened_count, opening, parent, slice_get, stage, state}
 use Rattle.run_picture.specs.{Arounds.IsNestOf, Closings.AreClosings, Closings.closing_place}
 
@@ -12,8 +12,13 @@ pub record IsTaskRow (h : History) (k : ℕ) (row : TaskRow) : Type 0 where
   pub stage : row.stage ≡ stage h k
   pub state : row.state ≡ state h k
 
+-- the cancel of scope p comes to a scope: that is p, or it has no shield, and the cancel comes to what lies around it
+pub data ComesTo (h : History) (p : ℕ) : ℕ → Type 0 where
+  there : ComesTo h p p
+  inwards : {s q : ℕ} {o : Opening} → opening h s ≡ Some o → o.options.shield ≡ false → around h o ≡ Some q → ComesTo h p q → ComesTo h p s
+
 -- the row is that of scope s: as it was opened, what lies around it, where it was first joined and closed, and where and
--- why it became cancelled; and in a legal history where it began to close
+-- why it became cancelled, by a cancel that comes to it; and in a legal history where it began to close
 pub record IsScopeRow (h : History) (s : ℕ) (row : ScopeRow) : Type 0 where
   pub opened : opening h s ≡ Some row.opened
   pub parent : row.parent ≡ parent h s
@@ -21,6 +26,7 @@ pub record IsScopeRow (h : History) (s : ℕ) (row : ScopeRow) : Type 0 where
   pub closing : (L : Limits) → Legal L h → row.closing ≡ closing_place h s
   pub closed : row.closed ≡ first_place Landmark.Closed h.events s
   pub cancelled : row.cancelled ≡ cancellation h s
+  pub comes : (i : ℕ) (c : Cause) → row.cancelled ≡ Some (i, c) → ComesTo h c.scope s
 
 -- row i is that of the task with the number before + 1 + i, for n tasks
 pub record AreTaskRows (rows : List TaskRow) (h : History) (n : ℕ) : Type 0 where
