@@ -1,8 +1,8 @@
 -- A fault names the first field that is wrong.
-use Rattle.std.specs.Prelude.{◌++◌, ◌+◌, ◌∷◌, ◌≡◌}
-use Rattle.refusal_reasons.specs.{[], ℕ, Bool, FieldKind, First, Keyword, LINE_LIMIT, List, Names, NamesField, NamesFirst, NamesIn, None, OpenWord, Option, Reaches, Slot, Some, Takes, WordFault}
+use Rattle.std.specs.Prelude.{◌+◌, ◌∷◌, ◌≡◌}
+use Rattle.refusal_reasons.specs.{[], ℕ, Bool, Keyword, LINE_LIMIT, List, Names, NamesField, NamesFirst, NamesIn, None, OpenWord, Option, Reaches, Slot, Some, Takes, WordFault}
 use Rattle.refusal_reasons.specs.{begins_comment, false, fault_of, fields, fields_fault, form_fault, is_kind, is_next, is_open_word, keyword_said, length, misfit, nat_lt, slots, true}
-use Rattle.refusal_reasons.proofs.Lemmas.{ap, arith, cond, inl, inr, ltb-true, refl, subst, sym}
+use Rattle.refusal_reasons.proofs.Lemmas.{ap, arith, cond, inl, inr, ltb-true, refl, subst}
 
 some_is : (f g : WordFault) → Some f ≡ Some g → f ≡ g
 some_is f g e = cc

@@ -1,7 +1,8 @@
 -- What searches find.
-use Rattle.std.specs.Prelude.{◌++◌, ◌+◌, ◌<◌, ◌||◌, ◌∷◌, ◌≡◌, ◌≤◌}
-use Rattle.refusal_reasons.specs.{[], ℕ, Bool, History, List, None, Some, earliest, false, find, first_place, forked_count, is_task_of, length, list_any, place_if}
+use Rattle.std.specs.Prelude.{◌+◌, ◌<◌, ◌||◌, ◌∷◌, ◌≡◌, ◌≤◌}
+use Rattle.refusal_reasons.specs.{[], ℕ, Bool, History, List, None, Some, earliest, false, find, first_place, forked_count, is_task_of, length, list_any, option_or, place_if}
 use Rattle.refusal_reasons.specs.{position, position_from, slice_get, suc, take, task_numbers, tasks, tasks_of, true, zero}
+use Rattle.std.proofs.lemmas.List.Folds.{find-append}
 use Rattle.refusal_reasons.proofs.Lemmas.{◌∙◌, ap, arith, cond, count_by-le-length, earliest_found, false_from_ne_true, length-filter, length-range_with_len, position_from-zero, refl, sym, take_at}
 use Rattle.refusal_reasons.proofs.Lemmas.{take_whole}
 
@@ -41,21 +42,13 @@ position_found p xs i x at none holds = position_from-zero p xs ∙ (found_from 
 
 -- ---- elements
 
-find_none-append : {A : Type 0} (p : A → Bool) (xs ys : List A) → find p xs ≡ None → find p (xs ++ ys) ≡ find p ys
-find_none-append p [] ys none = refl
-find_none-append p (x ∷ xs) ys none = by (p x) none (find_none-append p xs ys)
-  where
-    by : (b : Bool) → cond b (Some x) (find p xs) ≡ None → (find p xs ≡ None → find p (xs ++ ys) ≡ find p ys) → cond b (Some x) (find p (xs ++ ys)) ≡ find p ys
-    by true none more = absurd cc
-    by false none more = more none
-
 few_tasks : (h : History) (s : ℕ) → length (tasks_of h s) ≤ tasks h
 unfolding tasks_of
 few_tasks h s = omega (arith, length-filter (is_task_of h s) (task_numbers h), count_by-le-length (is_task_of h s) (task_numbers h), length-range_with_len (h.base.tasks + 1) (forked_count h))
 
 -- one more that does not pass
 pub find_passed : {A : Type 0} (p : A → Bool) (xs : List A) (i : ℕ) (x : A) → slice_get xs i ≡ Some x → find p (take i xs) ≡ None → p x ≡ false → find p (take (i + 1) xs) ≡ None
-find_passed p xs i x at none fails = ap (find p) (take_at xs i x at) ∙ (find_none-append p (take i xs) (x ∷ []) none ∙ ap (λ b. cond b (Some x) None) fails)
+find_passed p xs i x at none fails = ap (find p) (take_at xs i x at) ∙ (find-append p (take i xs) (x ∷ []) ∙ (ap (λ o. option_or o (find p (x ∷ []))) none ∙ ap (λ b. cond b (Some x) None) fails))
 
 -- the first that passes
 pub find_found : {A : Type 0} (p : A → Bool) (xs : List A) (i : ℕ) (x : A) → slice_get xs i ≡ Some x → find p (take i xs) ≡ None → p x ≡ true → find p xs ≡ Some x

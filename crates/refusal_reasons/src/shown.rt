@@ -36,7 +36,7 @@ fn stage_text(stage: Stage) -> &'static str {
     }
 }
 
-/// What is so of the scope's number, its owner or its place, if it is of those.
+/// What is so of the scope.
 fn write_scope<W: fmt::Write>(
     f: &mut fmt::Formatter<W>,
     lines: &[u64],
