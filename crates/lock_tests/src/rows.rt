@@ -3,10 +3,7 @@ ghost use Rattle.std.specs.Prelude.{◌≡◌};
 
 use crate::handing::{Handing, Watcher, the_watch_is_handed_on};
 use crate::threads::{ten_rounds, two_served, waited};
-use crate::waits::{
-    Waker, a_cancel_wakes, a_close_wakes, a_mark_wakes, a_reject_wakes, an_end_wakes_a_close,
-};
-use crate::waits_by::a_nearer_deadline_wakes;
+use crate::waits::{Waits, Waker, a_call_wakes};
 use realm_lock::{ActorToken, Realm, RealmName, Seed};
 use scope_rules::{AnyEnd, Limits};
 use std::alloc::Global;
@@ -22,13 +19,8 @@ use std::thread::Threads;
 enum Row {
     TwoServed,
     Waited,
-    Woken(Waker),
-    WokenByReject,
-    WokenByClose,
-    CloseWoken,
-    SleepWoken,
+    Woken(Waits, Waker),
     HandedOn(Handing),
-    Marked,
     TenRounds,
 }
 
@@ -55,13 +47,8 @@ fn play<N: RealmName + Send + Sync, R: Threads + Wait + SystemTime + Abort + Syn
     match row {
         Row::TwoServed => two_served(rt, realm, &mut main),
         Row::Waited => waited(rt, realm, &mut main),
-        Row::Woken(waker) => a_cancel_wakes(rt, realm, &mut main, waker),
-        Row::WokenByReject => a_reject_wakes(rt, realm, &mut main),
-        Row::WokenByClose => a_close_wakes(rt, realm, &mut main),
-        Row::CloseWoken => an_end_wakes_a_close(rt, realm, &mut main),
-        Row::SleepWoken => a_nearer_deadline_wakes(rt, realm, &mut main),
+        Row::Woken(waits, waker) => a_call_wakes(rt, realm, &mut main, (waits, waker)),
         Row::HandedOn(handing) => the_watch_is_handed_on(rt, alloc, realm, &mut main, handing),
-        Row::Marked => a_mark_wakes(rt, realm, &mut main),
         Row::TenRounds => ten_rounds(rt, realm, main),
     }
 }
@@ -83,14 +70,14 @@ fn check<N: RealmName + Send + Sync, R: Threads + Wait + SystemTime + Abort + Sy
 const ROWS: [(Row, u32); 11] = [
     (Row::TwoServed, 1),
     (Row::Waited, 20),
-    (Row::Woken(Waker::Cancel), 1),
-    (Row::Woken(Waker::Tick), 1),
-    (Row::Woken(Waker::Move), 1),
-    (Row::WokenByReject, 1),
-    (Row::WokenByClose, 1),
-    (Row::CloseWoken, 1),
-    (Row::SleepWoken, 1),
-    (Row::Marked, 2_000),
+    (Row::Woken(Waits::Join, Waker::Cancel), 1),
+    (Row::Woken(Waits::Join, Waker::Tick), 1),
+    (Row::Woken(Waits::Join, Waker::Move), 1),
+    (Row::Woken(Waits::Join, Waker::Reject), 1),
+    (Row::Woken(Waits::Join, Waker::BeginClose), 1),
+    (Row::Woken(Waits::Close, Waker::End), 1),
+    (Row::Woken(Waits::Sleep, Waker::Open), 1),
+    (Row::Woken(Waits::Mark, Waker::CancelNow), 2_000),
     (Row::TenRounds, 1),
 ];
 

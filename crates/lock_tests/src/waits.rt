@@ -4,21 +4,43 @@ ghost use Rattle.std.specs.Prelude.{◌≡◌};
 ghost use Rattle.share_ledger.specs.Values.{IsWaiting};
 
 use crate::common::{finish, fork, open, open_marked, run};
-use crate::threads::join_by;
-use realm_lock::{ActorToken, Realm, RealmName, Ticket};
+use crate::waits_by::LockingClock;
+use join_rules::Joiner;
+use realm_lock::{ActorToken, MarkCell, Realm, RealmName, Seat, Ticket};
 use scope_rules::{AnyEnd, Options, ScopeId, Value};
 use std::process::Abort;
+use std::rt::Clock as SystemTime;
 use std::sync::Wait;
+use std::sync::atomic::{AtomicU64, Ordering};
 use std::test::Fail;
 use std::thread;
 use std::thread::Threads;
 
-/// By what the scope becomes cancelled for which main waits.
+/// What one waits for: the end of a join, of a close around that, of a sleep by a clock, or the mark of a scope.
+#[derive(Clone, Copy)]
+pub enum Waits {
+    Join,
+    Close,
+    Sleep,
+    Mark,
+}
+
+/// The other's one call, by which the wait ends.
 #[derive(Clone, Copy)]
 pub enum Waker {
+    /// It cancels the scope, at once or after a pause.
+    CancelNow,
     Cancel,
     Tick,
     Move,
+    /// The one task that waits gets no thread.
+    Reject,
+    /// The one task starts and ends.
+    End,
+    /// It begins to close the scope around all, which is its own.
+    BeginClose,
+    /// A minute later it opens a scope whose deadline has come by then: the first deadline of all.
+    Open,
 }
 
 /// So long that the other thread has gone to sleep by then, as a rule.
@@ -28,176 +50,138 @@ pub fn pause() {
     }
 }
 
+/// The scopes of a row: the one around all, of main; in it one of who waits; and in that the one with the task that waits.
+#[derive(Clone, Copy)]
+struct Scopes {
+    around: ScopeId,
+    outer: ScopeId,
+    inner: ScopeId,
+}
+
 /// After a pause, the one call. Whether it is accepted.
 fn wake<N: RealmName, R: Wait>(
     rt: &R,
     realm: &Realm<AnyEnd, N>,
-    mut token: ActorToken,
-    scope: ScopeId,
+    token: &mut ActorToken,
+    ticket: Ticket,
+    scopes: Scopes,
+    time: &AtomicU64,
     waker: Waker,
 ) -> bool
-    requires { token.table ≡ N.table }
+    requires token { token.old.table ≡ N.table }
+    requires ticket { (ticket.table ≡ N.table) × IsWaiting ticket }
 {
-    pause();
     match waker {
-        Waker::Cancel => realm.cancel(rt, &mut token, scope).is_ok(),
-        Waker::Tick => realm.tick(rt, &mut token, 9).is_ok(),
-        Waker::Move => realm.move_deadline(rt, &mut token, scope, Some(0)).is_ok(),
+        Waker::CancelNow => {}
+        _ => pause(),
+    }
+    match waker {
+        Waker::CancelNow | Waker::Cancel => realm.cancel(rt, token, scopes.inner).is_ok(),
+        Waker::Tick => realm.tick(rt, token, 9).is_ok(),
+        Waker::Move => realm
+            .move_deadline(rt, token, scopes.inner, Some(0))
+            .is_ok(),
+        Waker::Reject => {
+            let _rejected = realm.reject(rt, ticket);
+            true
+        }
+        Waker::End => {
+            let (ticket, own) = realm.start(rt, ticket);
+            pause();
+            finish(rt, realm, ticket, own, Ok(Value::Num(1))).is_some()
+        }
+        Waker::BeginClose => realm.begin_close(rt, token, scopes.around).is_ok(),
+        Waker::Open => {
+            time.store(60_000, Ordering::SeqCst);
+            realm
+                .open(rt, token, Joiner::AwaitAll, Options::by(50_000))
+                .is_ok()
+        }
     }
 }
 
-/// A join of a scope whose task runs on ends when the scope is cancelled.
-pub fn a_cancel_wakes<N: RealmName + Send + Sync, R: Threads + Wait + Abort + Sync>(
+/// The wait. Whether it is answered.
+fn wait<N: RealmName, R: Wait + SystemTime>(
     rt: &R,
     realm: &Realm<AnyEnd, N>,
-    main: &mut ActorToken,
-    waker: Waker,
-) -> Result<(), Fail>
-    requires { main.old.table ≡ N.table }
-{
-    let options = Options {
-        deadline: Some(5),
-        ..Options::PLAIN
-    };
-    let scope = open(rt, realm, main, options)?;
-    let ticket = fork(rt, realm, main, scope)?;
-    let (_ticket, token) = realm.start(rt, ticket);
-    let (is_done, joined) = thread::join(
-        rt,
-        move ||
-            requires { token.table ≡ N.table }
-        { wake(rt, realm, token, scope, waker) },
-        ||
-            requires { main.now.table ≡ N.table }
-        { realm.join(rt, main, scope).is_ok() },
-    );
-    assert!(rt; is_done && joined);
-    Ok(())
-}
-
-/// After a pause, the ticket's task gets no thread.
-fn reject_later<N: RealmName, R: Wait>(rt: &R, realm: &Realm<AnyEnd, N>, ticket: Ticket)
-    requires { (ticket.table ≡ N.table) × IsWaiting ticket }
-{
-    pause();
-    let _rejected = realm.reject(rt, ticket);
-}
-
-/// A join ends when the one task that waits is rejected.
-pub fn a_reject_wakes<N: RealmName + Send + Sync, R: Threads + Wait + Abort + Sync>(
-    rt: &R,
-    realm: &Realm<AnyEnd, N>,
-    main: &mut ActorToken,
-) -> Result<(), Fail>
-    requires { main.old.table ≡ N.table }
-{
-    let scope = open(rt, realm, main, Options::PLAIN)?;
-    let ticket = fork(rt, realm, main, scope)?;
-    let ((), joined) = thread::join(
-        rt,
-        move ||
-            requires { (ticket.table ≡ N.table) × IsWaiting ticket }
-        { reject_later(rt, realm, ticket) },
-        ||
-            requires { main.now.table ≡ N.table }
-        { realm.join(rt, main, scope).is_ok() },
-    );
-    assert!(rt; joined);
-    Ok(())
-}
-
-/// After a pause, begins to close the scope. Whether that is accepted.
-fn close_later<N: RealmName, R: Wait>(
-    rt: &R,
-    realm: &Realm<AnyEnd, N>,
-    main: &mut ActorToken,
-    scope: ScopeId,
+    token: &mut ActorToken,
+    marked: (MarkCell, Seat),
+    scopes: Scopes,
+    time: &AtomicU64,
+    waits: Waits,
 ) -> bool
-    requires { main.old.table ≡ N.table }
+    requires token { token.old.table ≡ N.table }
+    requires seat { marked.1.cell ≡ marked.0 }
 {
-    pause();
-    realm.begin_close(rt, main, scope).is_ok()
+    match waits {
+        Waits::Join => realm.join(rt, token, scopes.inner).is_ok(),
+        Waits::Close => realm.close_bare(rt, token, scopes.outer).is_ok(),
+        Waits::Sleep => {
+            let readings = AtomicU64::new(0);
+            let mut clock = LockingClock::new(rt, realm, time, &readings);
+            realm.sleep_by(rt, token, &mut clock, 60_000).is_ok()
+        }
+        Waits::Mark => {
+            let (cell, mut seat) = marked;
+            realm.wait_marked(rt, &cell, &mut seat).scope == scopes.inner
+        }
+    }
 }
 
-/// A task's join of a scope of its own ends when main begins to close the scope around it.
-pub fn a_close_wakes<N: RealmName + Send + Sync, R: Threads + Wait + Abort + Sync>(
+/// One waits in scopes of its own, until the other's call; both are main and a task of a scope of main's.
+fn wakes<N: RealmName + Send + Sync, R: Threads + Wait + SystemTime + Abort + Sync>(
     rt: &R,
     realm: &Realm<AnyEnd, N>,
-    main: &mut ActorToken,
+    one: &mut ActorToken,
+    other: &mut ActorToken,
+    around: ScopeId,
+    row: (Waits, Waker),
 ) -> Result<(), Fail>
-    requires { main.old.table ≡ N.table }
+    requires one { one.old.table ≡ N.table }
+    requires other { other.old.table ≡ N.table }
 {
-    let scope = open(rt, realm, main, Options::PLAIN)?;
-    let ticket = fork(rt, realm, main, scope)?;
-    let (_ticket, mut token) = realm.start(rt, ticket);
-    let inner = open(rt, realm, &mut token, Options::PLAIN)?;
-    let _waits = fork(rt, realm, &mut token, inner)?;
-    let ((_token, joined), is_begun) = thread::join(
+    let (waits, waker) = row;
+    let options = match waker {
+        Waker::Tick | Waker::Move => Options::by(5),
+        _ => Options::PLAIN,
+    };
+    let outer = open(rt, realm, one, Options::PLAIN)?;
+    let (inner, cell, seat) = open_marked(rt, realm, one, options)?;
+    let ticket = fork(rt, realm, one, inner)?;
+    let scopes = Scopes {
+        around,
+        outer,
+        inner,
+    };
+    let time = AtomicU64::new(0);
+    let (is_done, is_woken) = thread::join(
         rt,
-        move ||
-            requires { token.table ≡ N.table }
-        { join_by(rt, realm, token, inner) },
         ||
-            requires { main.now.table ≡ N.table }
-        { close_later(rt, realm, main, scope) },
+            requires token { other.now.table ≡ N.table }
+            requires ticket { (ticket.table ≡ N.table) × IsWaiting ticket }
+        { wake(rt, realm, other, ticket, scopes, &time, waker) },
+        ||
+            requires token { one.now.table ≡ N.table }
+            requires seat { seat.cell ≡ cell }
+        { wait(rt, realm, one, (cell, seat), scopes, &time, waits) },
     );
-    assert!(rt; joined.is_ok() && is_begun);
+    assert!(rt; is_done && is_woken);
     Ok(())
 }
 
-/// After a pause, the task starts and ends. Whether it does.
-fn serve_later<N: RealmName, R: Wait>(rt: &R, realm: &Realm<AnyEnd, N>, ticket: Ticket) -> bool
-    requires { (ticket.table ≡ N.table) × IsWaiting ticket }
-{
-    let (ticket, token) = realm.start(rt, ticket);
-    pause();
-    finish(rt, realm, ticket, token, Ok(Value::Num(1))).is_some()
-}
-
-/// A close that has begun waits for the task of a scope inside, and ends when that has ended.
-pub fn an_end_wakes_a_close<N: RealmName + Send + Sync, R: Threads + Wait + Abort + Sync>(
+/// Main waits until a task's call, or the task until main's.
+pub fn a_call_wakes<N: RealmName + Send + Sync, R: Threads + Wait + SystemTime + Abort + Sync>(
     rt: &R,
     realm: &Realm<AnyEnd, N>,
     main: &mut ActorToken,
+    row: (Waits, Waker),
 ) -> Result<(), Fail>
     requires { main.old.table ≡ N.table }
 {
-    let scope = open(rt, realm, main, Options::PLAIN)?;
-    let inner = open(rt, realm, main, Options::PLAIN)?;
-    let ticket = fork(rt, realm, main, inner)?;
-    let (is_served, closed) = thread::join(
-        rt,
-        move ||
-            requires { (ticket.table ≡ N.table) × IsWaiting ticket }
-        { serve_later(rt, realm, ticket) },
-        ||
-            requires { main.now.table ≡ N.table }
-        { realm.close_bare(rt, main, scope).is_ok() },
-    );
-    assert!(rt; is_served && closed);
-    Ok(())
-}
-
-/// A wait for a mark ends, however closely the cancel comes upon its look: in one of many rounds, between that and
-/// its sleep.
-pub fn a_mark_wakes<N: RealmName + Send + Sync, R: Threads + Wait + Abort + Sync>(
-    rt: &R,
-    realm: &Realm<AnyEnd, N>,
-    main: &mut ActorToken,
-) -> Result<(), Fail>
-    requires { main.old.table ≡ N.table }
-{
-    let (scope, cell, mut seat) = open_marked(rt, realm, main, Options::PLAIN)?;
-    let mut token = run(rt, realm, main, scope)?;
-    let (is_cancelled, marked) = thread::join(
-        rt,
-        ||
-            requires { token.table ≡ N.table }
-        { realm.cancel(rt, &mut token, scope).is_ok() },
-        ||
-            requires { seat.cell ≡ cell }
-        { realm.wait_marked(rt, &cell, &mut seat).scope },
-    );
-    assert!(rt; is_cancelled && marked == scope);
-    Ok(())
+    let around = open(rt, realm, main, Options::PLAIN)?;
+    let mut task = run(rt, realm, main, around)?;
+    match row.1 {
+        Waker::BeginClose => wakes(rt, realm, &mut task, main, around, row),
+        _ => wakes(rt, realm, main, &mut task, around, row),
+    }
 }

@@ -1,20 +1,11 @@
-//! Waits by a clock that is set by hand, and looks at the realm whenever it is read: under the lock it would
-//! never return.
+//! A clock that is set by hand, and looks at the realm whenever it is read: under the lock it would never return.
 ghost use Rattle.std.specs.Prelude.{◌≡◌, Some};
 
-use crate::common::{fork, open};
-use crate::waits::pause;
-use join_rules::Joiner;
-use realm_lock::{ActorToken, Look, Realm, RealmName, RealmState};
-use scope_rules::{AnyEnd, Options};
+use realm_lock::{Look, Realm, RealmName, RealmState};
+use scope_rules::AnyEnd;
 use share_ledger::Clock;
-use std::process::Abort;
-use std::rt::Clock as SystemTime;
 use std::sync::Wait;
 use std::sync::atomic::{AtomicU64, Ordering};
-use std::test::Fail;
-use std::thread;
-use std::thread::Threads;
 
 /// A look that reads nothing.
 struct Glance;
@@ -73,46 +64,4 @@ impl<N: RealmName, R: Wait> Clock for LockingClock<'_, N, R> {
     fn last(&self) -> Option<u64> {
         self.last
     }
-}
-
-/// After a pause, it is a minute later, and a scope is opened whose deadline has come by then: the first
-/// deadline of all. Whether that is accepted.
-fn open_later<N: RealmName, R: Wait>(
-    rt: &R,
-    realm: &Realm<AnyEnd, N>,
-    mut token: ActorToken,
-    time: &AtomicU64,
-) -> bool
-    requires { token.table ≡ N.table }
-{
-    pause();
-    time.store(60_000, Ordering::SeqCst);
-    realm
-        .open(rt, &mut token, Joiner::AwaitAll, Options::by(50_000))
-        .is_ok()
-}
-
-/// A sleep for a moment alone, a minute away, ends when another's open brings a nearer deadline.
-pub fn a_nearer_deadline_wakes<
-    N: RealmName + Send + Sync,
-    R: Threads + Wait + SystemTime + Abort + Sync,
->(rt: &R, realm: &Realm<AnyEnd, N>, main: &mut ActorToken) -> Result<(), Fail>
-    requires { main.old.table ≡ N.table }
-{
-    let scope = open(rt, realm, main, Options::PLAIN)?;
-    let ticket = fork(rt, realm, main, scope)?;
-    let (_ticket, token) = realm.start(rt, ticket);
-    let (time, readings) = (AtomicU64::new(0), AtomicU64::new(0));
-    let mut clock = LockingClock::new(rt, realm, &time, &readings);
-    let (is_open, slept) = thread::join(
-        rt,
-        ||
-            requires { token.table ≡ N.table }
-        { open_later(rt, realm, token, &time) },
-        ||
-            requires { main.now.table ≡ N.table }
-        { realm.sleep_by(rt, main, &mut clock, 60_000).is_ok() },
-    );
-    assert!(rt; is_open && slept);
-    Ok(())
 }
