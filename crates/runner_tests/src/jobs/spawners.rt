@@ -2,12 +2,8 @@
 ghost use Rattle.std.specs.Prelude.{◌≡◌};
 
 use super::batched::{Batch, EMPTY};
-use super::duties::{Board, TestJob};
-use super::rows::{
-    BINDS, CANCELS_LOOK, CANCELS_SHIELDED, CANCELS_WAIT, CLOSES_CANCEL, FAILS, FIRST_OF_THREE,
-    LEFT_OPEN, LITTLE_ROOM, MEET, MISS, NONE_OF_THREE, OPENS_ALL, REVERSED, Row, SECOND_OF_THREE,
-    SECOND_REFUSED, THIRD_OF_THREE, TIMEOUT, TREE, TWO_LEFT_OPEN, play,
-};
+use super::duties::{Board, Duty, TestJob};
+use super::rows::{Row, play};
 use super::soak::told;
 use job_runner::{JobWork, TaskCtx};
 use realm_lock::{Realm, RealmName, Seed};
@@ -99,20 +95,28 @@ fn over_one_thread<N: RealmName, R: Wait + Abort + Files + Alloc>(
 
 #[test]
 fn two_jobs_see_each_other(rt: HostRuntime) -> Result<(), Fail> {
+    let row = Row::Meet {
+        looks: 1_000_000_000,
+        first: 1,
+    };
     for keep in [0, 4] {
-        over_a_pool::<Brand, _>(&rt, rt.alloc(), Seed::new(rt.alloc())?, keep, MEET)?;
+        over_a_pool::<Brand, _>(&rt, rt.alloc(), Seed::new(rt.alloc())?, keep, row)?;
     }
-    over_one_thread::<Brand, _>(&rt, rt.alloc(), Seed::new(rt.alloc())?, MISS)
+    let row = Row::Meet {
+        looks: 1_000,
+        first: 0,
+    };
+    over_one_thread::<Brand, _>(&rt, rt.alloc(), Seed::new(rt.alloc())?, row)
 }
 
 /// What is played over a pool.
 const ROWS: [Row; 25] = [
-    TREE,
-    SECOND_REFUSED,
-    FIRST_OF_THREE,
-    SECOND_OF_THREE,
-    THIRD_OF_THREE,
-    NONE_OF_THREE,
+    Row::Tree,
+    Row::SecondRefused,
+    Row::NthRefused(1),
+    Row::NthRefused(2),
+    Row::NthRefused(3),
+    Row::NthRefused(4),
     Row::Together,
     Row::Batch(EMPTY),
     Row::Batch(Batch {
@@ -137,18 +141,35 @@ const ROWS: [Row; 25] = [
         is_cancelled: true,
         ..EMPTY
     }),
-    REVERSED,
-    FAILS,
-    CANCELS_LOOK,
-    CANCELS_WAIT,
-    CANCELS_SHIELDED,
-    TIMEOUT,
-    OPENS_ALL,
-    BINDS,
-    LEFT_OPEN,
-    TWO_LEFT_OPEN,
-    CLOSES_CANCEL,
-    LITTLE_ROOM,
+    Row::Reversed,
+    Row::Fails,
+    Row::Cancelled {
+        duty: Duty::Looks {
+            looks: 1_000_000_000,
+        },
+        number: 1,
+    },
+    Row::Cancelled {
+        duty: Duty::Waits,
+        number: 1,
+    },
+    Row::Cancelled {
+        duty: Duty::Shielded,
+        number: 3,
+    },
+    Row::Timeout,
+    Row::EndsWith {
+        duty: Duty::OpensAll,
+        number: 15,
+    },
+    Row::EndsWith {
+        duty: Duty::Binds,
+        number: 12,
+    },
+    Row::LeftOpen,
+    Row::TwoLeftOpen,
+    Row::ClosesCancel,
+    Row::LittleRoom,
     Row::Rounds,
 ];
 
