@@ -1,6 +1,6 @@
 use Rattle.std.specs.Prelude.{◌≡◌, ◌⊎◌}
 use Rattle.scopectl.specs.{CameFrom, Err, OfNotes, ProgramFault, Write, false, true}
-use Rattle.scopectl.proofs.Words.{ap, refl, subst, sym}
+use Rattle.scopectl.proofs.Words.{◌∙◌, ap, refl, subst, sym}
 use Rattle.scopectl.proofs.Jobs.{came_of_noted, made, noted_kept, read_no_memory, shown_as, sound_noted, view_noted, view_stopped, view_told_part, write_no_memory}
 use Rattle.scopectl.proofs.act.show_noted.Goals as goal
 

@@ -24,6 +24,6 @@ returns-in-Err-clause-named g c = λ e. record {
   fault = c.of_run.result;
   came = subst (λ (f : ProgramFault). CameFrom f ((c.shown.new.reader.failed ≡ true) ⊎ (c.shown.new.reader.reads ≡ 18446744073709551615)) (c.shown.new.writer.failed ≡ true) ((c.shown.new.reader.failed ≡ false) × (c.shown.new.writer.failed ≡ false)) (λ _. ⊥)) (sym c.of_run.ensures)
       (came_of c.in-Err.cause _ _ _ _ (λ is. c.shown.ensures.read (c.in-Err.is ∙ ap Err is)) (λ is. c.shown.ensures.write (c.in-Err.is ∙ ap Err is))
-      (λ is. (sound_at _ _ _ _ c.in-Err.is c.shown.ensures.read_failed is read_is_other, shown_as, sound_at _ _ _ _ c.in-Err.is c.shown.ensures.write_failed is write_is_other)));
+      (λ is. (sound_at _ _ _ _ c.in-Err.is c.shown.ensures.read_failed is read_is_other, sound_at _ _ _ _ c.in-Err.is c.shown.ensures.write_failed is write_is_other)));
   line = c.fail.ensures.named;
 }
