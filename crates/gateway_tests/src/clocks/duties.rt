@@ -1,6 +1,5 @@
 //! What the jobs do, and how main opens scopes and forks them.
 use super::readings::{BoardClock, CountedClock};
-use super::requests::is_kept;
 use job_runner::{Answers, Clock, Job, JobWork, NamedJob, SystemClock, TaskCtx};
 use join_rules::Joiner;
 use realm_lock::RealmName;
@@ -76,12 +75,6 @@ pub enum Duty {
     },
     /// It sleeps for a while, whatever happens.
     Naps,
-    /// It makes a request, by its clock.
-    Request,
-    /// It is a backend that takes so long.
-    Backend {
-        millis: u64,
-    },
     /// After a pause it sets the board's time.
     Sets {
         time: u64,
@@ -112,11 +105,7 @@ impl<
     S: Spawns<N, JobWork<AnyEnd, N, Worker<T>>>,
 > Job<AnyEnd, S, N> for Worker<T> {
     fn run<R: Wait>(self, rt: &R, ctx: &mut TaskCtx<AnyEnd, S, N>) -> End {
-        let Worker {
-            mut clock,
-            duty,
-            board,
-        } = self;
+        let Worker { clock, duty, board } = self;
         let time = clock.runtime();
         let is_right = match duty {
             Duty::Waits => ctx.wait_cancelled(rt).is_some(),
@@ -132,11 +121,6 @@ impl<
             Duty::Counts { deadline } => {
                 let mut counted = CountedClock::new(clock, board);
                 count(&time, ctx, &mut counted, deadline)
-            }
-            Duty::Request => is_kept(rt, ctx, clock, &board),
-            Duty::Backend { millis } => {
-                let until = clock.now().saturating_add(millis);
-                matches!(ctx.sleep_by(&time, &mut clock, until), Ok(None))
             }
             Duty::Naps => {
                 thread::sleep(&time, Duration::from_millis(300));

@@ -2,12 +2,8 @@
 ghost use Rattle.std.specs.Prelude.{◌≡◌};
 
 use super::duties::{Board, Shared, Worker};
-use super::requests::all_kept;
 use super::rows::{limits_of_one_tick, one_tick, rows};
-use super::together::{
-    AWAY, Beside, CLOSED_BY, FIRST, NEARER, SOONER, TOGETHER, WOKEN, counted, handed_on,
-    plays_beside,
-};
+use super::together::{closed_by, counted, handed_on, moved, opened_late, together, woken};
 use job_runner::{JobWork, TaskCtx};
 use realm_lock::{Realm, RealmName, Seed};
 use scope_rules::{AnyEnd, Limits};
@@ -24,14 +20,20 @@ enum Play {
     Rows,
     /// A load that has one unit left for ticks.
     OneTick,
-    /// Main waits beside jobs, by a clock that one of them sets.
-    Beside(Beside),
+    /// Two wait for one deadline.
+    Together,
+    /// One waits by a clock, and main without.
+    Woken,
+    /// A deadline is moved while main sleeps.
+    Moved { nearer: bool },
+    /// A scope with a deadline is opened while main sleeps.
+    OpenedLate { first: bool },
     /// Who waits by a clock ends its wait before another deadline comes.
     HandedOn,
     /// Many wait by clocks, each for a deadline of its own.
     Counted,
-    /// So many requests at once, each to backends of which one takes too long.
-    Requests(usize),
+    /// Main closes a scope in which a job waits behind a shield.
+    ClosedBy,
 }
 
 impl Play {
@@ -54,10 +56,13 @@ fn in_context<N: RealmName, R: PoolRuntime + SystemTime + Drop>(
     match play {
         Play::Rows => rows(rt, ctx, board),
         Play::OneTick => one_tick(rt, ctx, board),
-        Play::Beside(row) => plays_beside(rt, ctx, board, row),
+        Play::Together => together(rt, ctx, board),
+        Play::Woken => woken(rt, ctx, board),
+        Play::Moved { nearer } => moved(rt, ctx, board, nearer),
+        Play::OpenedLate { first } => opened_late(rt, ctx, board, first),
         Play::HandedOn => handed_on(rt, ctx, board),
         Play::Counted => counted(rt, ctx, board),
-        Play::Requests(count) => all_kept(rt, ctx, board, count),
+        Play::ClosedBy => closed_by(rt, ctx, board),
     }
 }
 
@@ -107,48 +112,68 @@ fn is_right<R: PoolRuntime + SystemTime + AllocGlobal + Drop>(rt: &R, play: Play
     }
 }
 
-/// The plays, and what each shows.
-const PLAYS: [(&str, Play); 13] = [
-    ("each wait passes the deadlines that come", Play::Rows),
-    (
-        "a tick for which there is no load ends the wait",
-        Play::OneTick,
-    ),
-    (
-        "two who wait for one deadline tick once",
-        Play::Beside(TOGETHER),
-    ),
-    (
-        "who waits by a clock wakes who waits without",
-        Play::Beside(WOKEN),
-    ),
-    (
-        "a deadline moved nearer wakes who waits",
-        Play::Beside(NEARER),
-    ),
-    ("a deadline moved away passes later", Play::Beside(AWAY)),
-    (
-        "an open with the first deadline wakes who waits",
-        Play::Beside(FIRST),
-    ),
-    (
-        "an open with a nearer deadline wakes who waits",
-        Play::Beside(SOONER),
-    ),
-    (
-        "a close passes the deadline behind a shield",
-        Play::Beside(CLOSED_BY),
-    ),
-    ("who ends its wait hands on the watch", Play::HandedOn),
-    ("each who waits reads its clock three times", Play::Counted),
-    ("a request keeps its time", Play::Requests(1)),
-    ("a hundred requests keep their time", Play::Requests(100)),
-];
+#[test]
+fn each_wait_passes_the_deadlines_that_come(rt: HostRuntime) -> Result<(), Fail> {
+    assert!(rt; is_right(&rt, Play::Rows));
+    Ok(())
+}
 
 #[test]
-fn each_play_by_a_clock_is_right(rt: HostRuntime) -> Result<(), Fail> {
-    for (name, play) in PLAYS {
-        assert!(rt; is_right(&rt, play), "{name}");
-    }
+fn a_tick_for_which_there_is_no_load_ends_the_wait(rt: HostRuntime) -> Result<(), Fail> {
+    assert!(rt; is_right(&rt, Play::OneTick));
+    Ok(())
+}
+
+#[test]
+fn two_who_wait_for_one_deadline_tick_once(rt: HostRuntime) -> Result<(), Fail> {
+    assert!(rt; is_right(&rt, Play::Together));
+    Ok(())
+}
+
+#[test]
+fn who_waits_by_a_clock_wakes_who_waits_without(rt: HostRuntime) -> Result<(), Fail> {
+    assert!(rt; is_right(&rt, Play::Woken));
+    Ok(())
+}
+
+#[test]
+fn a_deadline_moved_nearer_wakes_who_waits(rt: HostRuntime) -> Result<(), Fail> {
+    assert!(rt; is_right(&rt, Play::Moved { nearer: true }));
+    Ok(())
+}
+
+#[test]
+fn a_deadline_moved_away_passes_later(rt: HostRuntime) -> Result<(), Fail> {
+    assert!(rt; is_right(&rt, Play::Moved { nearer: false }));
+    Ok(())
+}
+
+#[test]
+fn an_open_with_the_first_deadline_wakes_who_waits(rt: HostRuntime) -> Result<(), Fail> {
+    assert!(rt; is_right(&rt, Play::OpenedLate { first: true }));
+    Ok(())
+}
+
+#[test]
+fn an_open_with_a_nearer_deadline_wakes_who_waits(rt: HostRuntime) -> Result<(), Fail> {
+    assert!(rt; is_right(&rt, Play::OpenedLate { first: false }));
+    Ok(())
+}
+
+#[test]
+fn who_ends_its_wait_hands_on_the_watch(rt: HostRuntime) -> Result<(), Fail> {
+    assert!(rt; is_right(&rt, Play::HandedOn));
+    Ok(())
+}
+
+#[test]
+fn each_who_waits_reads_its_clock_three_times(rt: HostRuntime) -> Result<(), Fail> {
+    assert!(rt; is_right(&rt, Play::Counted));
+    Ok(())
+}
+
+#[test]
+fn a_close_passes_the_deadline_behind_a_shield(rt: HostRuntime) -> Result<(), Fail> {
+    assert!(rt; is_right(&rt, Play::ClosedBy));
     Ok(())
 }

@@ -13,118 +13,109 @@ use std::thread;
 use std::time::Duration;
 use thread_pool::{PoolRuntime, Spawns};
 
-/// What main does about the inner of two scopes: it joins it by the board's clock, which comes to this; it joins it without a
-/// clock; or it closes it by the board's clock.
-#[derive(Clone, Copy)]
-pub enum How {
-    JoinsBy(Seen),
-    Joins,
-    ClosesBy,
-}
-
-/// Main's wait beside jobs in two scopes, of which the outer is the realm's first, and the inner its second.
-#[derive(Clone, Copy)]
-pub struct Beside {
-    /// The deadline of the inner.
-    pub deadline: Option<u64>,
-    pub within: &'static [Duty],
-    pub around: &'static [Duty],
-    pub how: How,
-    /// The one tick that there is.
-    pub tick: u64,
+/// A clock that reads what stands on the board. None where std's count of holders is full.
+fn clock_of(board: &Shared) -> Option<BoardClock> {
+    match Arc::try_clone(board) {
+        Ok(share) => Some(BoardClock::new(share)),
+        Err(_) => None,
+    }
 }
 
 /// Main joins a scope and its job waits for the mark, both by clocks: the deadline passes by one tick.
-pub const TOGETHER: Beside = Beside {
-    deadline: Some(5),
-    within: &[Duty::WaitsBy],
-    around: &[Duty::Sets { time: 5 }],
-    how: How::JoinsBy(Seen::Timeout),
-    tick: 5,
-};
-
-/// Main joins without a clock: a job that waits by one wakes it, once its tick has passed the deadline.
-pub const WOKEN: Beside = Beside {
-    within: &[Duty::Waits],
-    around: &[Duty::WaitsBy, Duty::Sets { time: 5 }],
-    how: How::Joins,
-    ..TOGETHER
-};
-
-/// A job moves the deadline while main sleeps: nearer, where main would sleep for a minute.
-pub const NEARER: Beside = Beside {
-    deadline: Some(60_000),
-    within: &[Duty::Waits],
-    around: &[Duty::Moves {
-        scope: 2,
-        deadline: 5,
-        time: 5,
-    }],
-    ..TOGETHER
-};
-
-/// The same, but away, and the old one doesn't pass.
-pub const AWAY: Beside = Beside {
-    within: &[Duty::Waits],
-    around: &[Duty::Moves {
-        scope: 2,
-        deadline: 9,
-        time: 9,
-    }],
-    tick: 9,
-    ..TOGETHER
-};
-
-/// A job opens a scope with a deadline while main sleeps: the first of all. Nobody passes it but main, whom the open wakes.
-pub const FIRST: Beside = Beside {
-    deadline: None,
-    within: &[Duty::OpensLate { deadline: 5 }],
-    around: &[],
-    how: How::JoinsBy(Seen::Other),
-    tick: 5,
-};
-
-/// The same, but one that is nearer than main's.
-pub const SOONER: Beside = Beside {
-    deadline: Some(60_000),
-    ..FIRST
-};
-
-/// Main closes a scope whose job waits behind a shield, in a scope that it opens late, for a deadline that
-/// nobody passes but main.
-pub const CLOSED_BY: Beside = Beside {
-    within: &[Duty::Shields { deadline: 5 }, Duty::Sets { time: 5 }],
-    how: How::ClosesBy,
-    ..FIRST
-};
-
-/// Whether the wait comes to what it should, by one tick.
-pub fn plays_beside<
+pub fn together<
     R: PoolRuntime + SystemTime + Drop,
     N: RealmName,
     S: Spawns<N, JobWork<AnyEnd, N, Worker<R>>>,
->(rt: &R, ctx: &mut TaskCtx<AnyEnd, S, N>, board: &Shared, row: Beside) -> Option<bool> {
+>(rt: &R, ctx: &mut TaskCtx<AnyEnd, S, N>, board: &Shared) -> Option<bool> {
     let outer = open(rt, ctx, None, false)?;
-    let inner = open(rt, ctx, row.deadline, false)?;
-    let mut is_right = true;
-    for duty in row.within {
-        is_right = fork(rt, ctx, *rt, board, inner, *duty) && is_right;
+    let inner = open(rt, ctx, Some(5), false)?;
+    if !fork(rt, ctx, *rt, board, inner, Duty::WaitsBy)
+        || !fork(rt, ctx, *rt, board, outer, Duty::Sets { time: 5 })
+    {
+        return None;
     }
-    for duty in row.around {
-        is_right = fork(rt, ctx, *rt, board, outer, *duty) && is_right;
+    let mut clock = clock_of(board)?;
+    let is_out = joined(rt, ctx, inner, &mut clock) == Seen::Timeout;
+    let is_closed = ctx.close_scope_bare(rt, outer).is_ok();
+    Some(is_out && is_closed && ticks(rt, ctx)? == (1, 5))
+}
+
+/// Main joins without a clock: a job that waits by one wakes it, once its tick has passed the deadline.
+pub fn woken<
+    R: PoolRuntime + SystemTime + Drop,
+    N: RealmName,
+    S: Spawns<N, JobWork<AnyEnd, N, Worker<R>>>,
+>(rt: &R, ctx: &mut TaskCtx<AnyEnd, S, N>, board: &Shared) -> Option<bool> {
+    let outer = open(rt, ctx, None, false)?;
+    let inner = open(rt, ctx, Some(5), false)?;
+    if !fork(rt, ctx, *rt, board, inner, Duty::Waits)
+        || !fork(rt, ctx, *rt, board, outer, Duty::WaitsBy)
+        || !fork(rt, ctx, *rt, board, outer, Duty::Sets { time: 5 })
+    {
+        return None;
     }
-    let mut clock = match Arc::try_clone(board) {
-        Ok(share) => BoardClock::new(share),
-        Err(_) => return None,
+    let is_joined = ctx.join(rt, inner).is_ok();
+    let ticks = ticks(rt, ctx)?;
+    Some(is_joined && ticks == (1, 5) && ctx.close_scope_bare(rt, outer).is_ok())
+}
+
+/// A job moves the deadline while main sleeps: nearer, where main would sleep for a minute; or away, and the
+/// old one doesn't pass.
+pub fn moved<
+    R: PoolRuntime + SystemTime + Drop,
+    N: RealmName,
+    S: Spawns<N, JobWork<AnyEnd, N, Worker<R>>>,
+>(rt: &R, ctx: &mut TaskCtx<AnyEnd, S, N>, board: &Shared, nearer: bool) -> Option<bool> {
+    let (first, then) = if nearer { (60_000, 5) } else { (5, 9) };
+    let outer = open(rt, ctx, None, false)?;
+    let inner = open(rt, ctx, Some(first), false)?;
+    let moves = Duty::Moves {
+        scope: inner,
+        deadline: then,
+        time: then,
     };
-    is_right = is_right
-        && match row.how {
-            How::JoinsBy(seen) => joined(rt, ctx, inner, &mut clock) == seen,
-            How::Joins => ctx.join(rt, inner).is_ok(),
-            How::ClosesBy => ctx.close_scope_by(rt, inner, &mut clock).is_ok(),
-        };
-    is_right = is_right && ticks(rt, ctx)? == (1, row.tick);
-    Some(is_right && ctx.close_scope_bare(rt, outer).is_ok())
+    if !fork(rt, ctx, *rt, board, inner, Duty::Waits) || !fork(rt, ctx, *rt, board, outer, moves) {
+        return None;
+    }
+    let mut clock = clock_of(board)?;
+    let is_out = joined(rt, ctx, inner, &mut clock) == Seen::Timeout;
+    let is_closed = ctx.close_scope_bare(rt, outer).is_ok();
+    Some(is_out && is_closed && ticks(rt, ctx)? == (1, then))
+}
+
+/// Main closes a scope whose job waits behind a shield, in a scope that it opens late, for a deadline that
+/// nobody passes but main.
+pub fn closed_by<
+    R: PoolRuntime + SystemTime + Drop,
+    N: RealmName,
+    S: Spawns<N, JobWork<AnyEnd, N, Worker<R>>>,
+>(rt: &R, ctx: &mut TaskCtx<AnyEnd, S, N>, board: &Shared) -> Option<bool> {
+    let scope = open(rt, ctx, None, false)?;
+    if !fork(rt, ctx, *rt, board, scope, Duty::Shields { deadline: 5 })
+        || !fork(rt, ctx, *rt, board, scope, Duty::Sets { time: 5 })
+    {
+        return None;
+    }
+    let mut clock = clock_of(board)?;
+    let is_closed = ctx.close_scope_by(rt, scope, &mut clock).is_ok();
+    Some(is_closed && ticks(rt, ctx)? == (1, 5))
+}
+
+/// A job opens a scope with a deadline while main sleeps: the first of all, or one that is nearer than main's.
+/// Nobody passes it but main, whom the open wakes.
+pub fn opened_late<
+    R: PoolRuntime + SystemTime + Drop,
+    N: RealmName,
+    S: Spawns<N, JobWork<AnyEnd, N, Worker<R>>>,
+>(rt: &R, ctx: &mut TaskCtx<AnyEnd, S, N>, board: &Shared, first: bool) -> Option<bool> {
+    let outer = open(rt, ctx, if first { None } else { Some(60_000) }, false)?;
+    if !fork(rt, ctx, *rt, board, outer, Duty::OpensLate { deadline: 5 }) {
+        return None;
+    }
+    let mut clock = clock_of(board)?;
+    let is_done = joined(rt, ctx, outer, &mut clock) == Seen::Other;
+    let ticks = ticks(rt, ctx)?;
+    Some(is_done && ticks == (1, 5) && ctx.close_scope_bare(rt, outer).is_ok())
 }
 
 /// A job's wait by the clock begins before main's, and ends first: main passes the deadline behind a shield that

@@ -1,7 +1,7 @@
-//! Requests, with a deadline and without. What plans are answered, `crates/scopectl/rows` says.
+//! Requests without a deadline. What plans are answered, `crates/scopectl/rows` says.
 
 use super::asking::Duty;
-use super::serving::{Request, Served, Timed, over_a_pool, over_one_thread};
+use super::serving::{Request, Served, over_a_pool, with_duties};
 use quote_gateway::GatewayFault;
 use realm_lock::Seed;
 use std::marker::Brand;
@@ -10,259 +10,91 @@ use std::test::Fail;
 
 /// A request, and what it comes to.
 #[derive(Clone, Copy)]
-struct Row {
-    request: Request<'static>,
-    /// How many threads may rest of each pool on which it is served; none for one thread without a pool.
-    over: &'static [Option<usize>],
+pub struct Row {
+    pub request: Request<'static>,
     /// The line, or why there is none.
-    wanted: Result<&'static str, GatewayFault>,
+    pub wanted: Result<&'static str, GatewayFault>,
     /// How many jobs are called, where that is certain.
-    calls: Option<u64>,
+    pub calls: Option<u64>,
 }
 
-impl Row {
-    /// Whether it came to that.
-    fn is_right(&self, served: &Served) -> bool {
-        let is_line = match (&served.line, &self.wanted) {
-            (Ok(line), Ok(wanted)) => line.as_str() == *wanted,
-            (Err(why), Err(wanted)) => *why == *wanted,
-            _ => false,
-        };
-        match self.calls {
-            Some(calls) => is_line && served.calls == calls,
-            None => is_line,
-        }
+/// That the request came to what the row says.
+pub fn check(rt: &impl Abort, row: &Row, served: &Served) {
+    match (&served.line, &row.wanted) {
+        (Ok(line), Ok(wanted)) => assert_eq!(rt; line.as_str(), *wanted),
+        (Err(why), Err(wanted)) => assert_eq!(rt; why, wanted, "{}", row.request.plan),
+        (Ok(line), Err(_)) => assert!(rt; false, "{}: {line}", row.request.plan),
+        (Err(_), Ok(wanted)) => assert!(rt; false, "no answer, but {wanted}"),
+    }
+    if let Some(calls) = row.calls {
+        assert_eq!(rt; served.calls, calls, "{}", row.request.plan);
     }
 }
 
-const POOLS: &[Option<usize>] = &[Some(0), Some(4)];
+/// The jobs have these duties, and the request has no answer.
+fn fails(plan: &'static str, duties: &'static [Duty], fault: GatewayFault) -> Row {
+    Row {
+        request: with_duties(plan, duties),
+        wanted: Err(fault),
+        calls: None,
+    }
+}
 
-const ONE_THREAD: &[Option<usize>] = &[None];
-
-/// One offer, two, and three prices, of which the last two are the least.
-const ONE: &str = "mode best / offer a 5";
-
-const TWO: &str = "mode best / offer a 5 / offer b 6";
-
-const PRICES: &str = "mode best / offer a 905 / offer b 899 / offer c 899";
-
-const LOST_REQUEST: Request<'static> = Request {
-    plan: ONE,
-    jobs: ONE,
-    duties: &[Duty::Forgets],
-    refused: 0,
-    timed: None,
-};
-
-/// A request for one offer, whose job ends otherwise than that says.
-const LOST: Row = Row {
-    request: LOST_REQUEST,
-    over: POOLS,
-    wanted: Err(GatewayFault::Lost),
-    calls: None,
-};
-
-const STRANGE_REQUEST: Request<'static> = Request {
-    plan: TWO,
-    jobs: ONE,
-    duties: &[],
-    refused: 0,
-    timed: None,
-};
-
-/// A request for two offers with the job of one.
-const STRANGE: Row = Row {
-    request: STRANGE_REQUEST,
-    wanted: Err(GatewayFault::Strange),
-    calls: Some(0),
-    ..LOST
-};
-
-/// A request by the deadline of 100 ms, whose clock reads this.
-const EARLY: Option<Timed> = Some(Timed {
-    deadline: 100,
-    reading: Some(99),
-});
-
-const LATE: Option<Timed> = Some(Timed {
-    deadline: 100,
-    reading: Some(100),
-});
-
-const HALF: Option<Timed> = Some(Timed {
-    deadline: 100,
-    reading: Some(50),
-});
-
-const WAITED_REQUEST: Request<'static> = Request {
-    plan: PRICES,
-    jobs: PRICES,
-    duties: &[],
-    refused: 0,
-    timed: EARLY,
-};
-
-/// Before the deadline is there all prices are waited for.
-const WAITED: Row = Row {
-    request: WAITED_REQUEST,
-    wanted: Ok("best b 899"),
-    ..LOST
-};
-
-/// What requests come to that no plan of the program can.
-const ROWS: [Row; 18] = [
-    LOST,
-    // A thread is refused.
+/// The thread of this number is refused.
+fn refused(plan: &'static str, nth: u64, calls: u64) -> Row {
     Row {
         request: Request {
+            plan,
+            jobs: plan,
             duties: &[],
-            refused: 1,
-            ..LOST_REQUEST
+            refused: nth,
+            timed: None,
         },
         wanted: Err(GatewayFault::Rejected),
-        calls: Some(0),
-        ..LOST
-    },
+        calls: Some(calls),
+    }
+}
+
+/// The jobs of the second plan are handed over with the first.
+fn strange(plan: &'static str, jobs: &'static str) -> Row {
     Row {
         request: Request {
-            jobs: TWO,
-            refused: 2,
-            ..STRANGE_REQUEST
-        },
-        wanted: Err(GatewayFault::Rejected),
-        calls: Some(1),
-        ..LOST
-    },
-    // A job leaves a scope open, or cancels the request.
-    Row {
-        request: Request {
-            duties: &[Duty::LeavesOpen],
-            ..LOST_REQUEST
-        },
-        ..LOST
-    },
-    Row {
-        request: Request {
-            duties: &[Duty::Cancels],
-            ..LOST_REQUEST
-        },
-        wanted: Err(GatewayFault::Cancelled),
-        ..LOST
-    },
-    // The jobs are not those of the plan.
-    STRANGE,
-    Row {
-        request: Request {
-            plan: ONE,
-            jobs: TWO,
-            ..STRANGE_REQUEST
-        },
-        ..STRANGE
-    },
-    Row {
-        request: Request {
-            jobs: "mode best / offer b 6 / offer a 5",
-            ..STRANGE_REQUEST
-        },
-        ..STRANGE
-    },
-    Row {
-        request: Request {
-            jobs: "mode best / offer a 5 / offer b 7",
-            ..STRANGE_REQUEST
-        },
-        ..STRANGE
-    },
-    Row {
-        request: Request {
-            jobs: "mode best / offer a 5 / offer c 6",
-            ..STRANGE_REQUEST
-        },
-        ..STRANGE
-    },
-    WAITED,
-    // At the deadline the jobs see their marks; and one that tells a later moment than the clock's cancels the request.
-    Row {
-        request: Request {
-            duties: &[Duty::Looks, Duty::Looks, Duty::Looks],
-            timed: LATE,
-            ..WAITED_REQUEST
-        },
-        wanted: Ok("partial"),
-        ..WAITED
-    },
-    Row {
-        request: Request {
-            duties: &[Duty::TicksAt(0, 200)],
-            timed: HALF,
-            ..LOST_REQUEST
-        },
-        wanted: Err(GatewayFault::Cancelled),
-        ..LOST
-    },
-    // A job that is not wanted any more goes on behind a shield until a deadline there has come: the close of the
-    // request lets that pass, by the system's clock.
-    Row {
-        request: Request {
-            plan: "mode first / offer b 899 / offer a 905",
-            jobs: "mode first / offer b 899 / offer a 905",
-            duties: &[Duty::Lingers(300)],
+            plan,
+            jobs,
+            duties: &[],
             refused: 0,
-            timed: Some(Timed {
-                deadline: 60_000,
-                reading: None,
-            }),
+            timed: None,
         },
-        over: &[Some(4)],
-        wanted: Ok("first a 905"),
-        calls: Some(2),
-    },
-    // On one thread each job has ended before the clock is read: then all prices are there, whatever the clock reads,
-    // and also where a job told a later moment.
-    Row {
-        over: ONE_THREAD,
-        ..WAITED
-    },
-    Row {
-        request: Request {
-            timed: LATE,
-            ..WAITED_REQUEST
-        },
-        over: ONE_THREAD,
-        ..WAITED
-    },
-    Row {
-        request: Request {
-            plan: "mode all / offer a 5 / offer b fail x / offer c 7",
-            jobs: "mode all / offer a 5 / offer b fail x / offer c 7",
-            timed: LATE,
-            ..LOST_REQUEST
-        },
-        over: ONE_THREAD,
-        ..LOST
-    },
-    Row {
-        request: Request {
-            duties: &[Duty::TicksAt(0, 60)],
-            timed: HALF,
-            ..LOST_REQUEST
-        },
-        over: ONE_THREAD,
-        wanted: Ok("best a 5"),
-        ..LOST
-    },
-];
+        wanted: Err(GatewayFault::Strange),
+        calls: Some(0),
+    }
+}
+
+/// What requests come to that no plan of the program can: a thread is refused, a job ends otherwise than its offer says or cancels
+/// the request, and the jobs are not those of the plan.
+fn rows() -> [Row; 10] {
+    let (one, two) = ("mode best / offer a 5", "mode best / offer a 5 / offer b 6");
+    [
+        refused(one, 1, 0),
+        refused(two, 2, 1),
+        fails(one, &[Duty::Forgets], GatewayFault::Lost),
+        fails(one, &[Duty::LeavesOpen], GatewayFault::Lost),
+        fails(one, &[Duty::Cancels], GatewayFault::Cancelled),
+        strange(two, one),
+        strange(one, two),
+        strange(two, "mode best / offer b 6 / offer a 5"),
+        strange(two, "mode best / offer a 5 / offer b 7"),
+        strange(two, "mode best / offer a 5 / offer c 6"),
+    ]
+}
 
 #[test]
 fn requests_are_answered(rt: HostRuntime) -> Result<(), Fail> {
-    for row in &ROWS {
-        for over in row.over {
+    for row in &rows() {
+        for keep in [0, 4] {
             let seed = Seed::new(rt.alloc())?;
-            let served = match *over {
-                Some(keep) => over_a_pool::<Brand, _>(&rt, rt.alloc(), seed, keep, row.request)?,
-                None => over_one_thread::<Brand, _>(&rt, rt.alloc(), seed, row.request)?,
-            };
-            assert!(rt; row.is_right(&served), "{}", row.request.plan);
+            let served = over_a_pool::<Brand, _>(&rt, rt.alloc(), seed, keep, row.request)?;
+            check(&rt, row, &served);
         }
     }
     Ok(())

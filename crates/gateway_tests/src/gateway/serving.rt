@@ -3,8 +3,8 @@ ghost use Rattle.std.specs.Prelude.{◌≡◌};
 
 use super::asking::{Asked, Duty, jobs_with};
 use super::plans::plan_of;
-use job_runner::{Clock, JobWork, NamedJob, SetClock, SystemClock};
-use quote_gateway::{Answer, GatewayFault, Plan, Served as Found, serve, serve_by};
+use job_runner::{JobWork, NamedJob, SetClock, SystemClock};
+use quote_gateway::{GatewayFault, Plan, Served as Found, serve, serve_by};
 use realm_lock::{RealmName, Seed};
 use scope_rules::Due;
 use std::alloc::Global;
@@ -14,7 +14,7 @@ use std::sync::atomic::{AtomicU64, Ordering};
 use std::sync::{Arc, Wait};
 use std::test::Fail;
 use test_driver::{Inline, RefuseNth};
-use thread_pool::{Nobody, PoolRuntime, Spawner, Spawns, ThreadPool};
+use thread_pool::{Nobody, PoolRuntime, Spawns, ThreadPool};
 
 /// The deadline of a request, and what its clock reads, in milliseconds: with none it is the system's.
 #[derive(Clone, Copy)]
@@ -33,6 +33,17 @@ pub struct Request<'a> {
     /// Which thread is refused, from 1, or none.
     pub refused: u64,
     pub timed: Option<Timed>,
+}
+
+/// A request without a deadline, whose jobs have these duties.
+pub fn with_duties<'a>(plan: &'a str, duties: &'a [Duty]) -> Request<'a> {
+    Request {
+        plan,
+        jobs: plan,
+        duties,
+        refused: 0,
+        timed: None,
+    }
 }
 
 /// What a request came to: the line, or why there is none, and how many jobs were called.
@@ -58,81 +69,31 @@ where
     R: Wait + SystemTime + Copy,
     requires { seed ≡ N.table }
 {
-    let Some(timed) = timed else {
-        return said(
-            rt,
-            alloc,
-            serve::<N, _, _, _>(rt, alloc, seed, plan, jobs, spawner),
-        );
+    let served = match timed {
+        None => serve::<N, _, _, _>(rt, alloc, seed, plan, jobs, spawner)?,
+        Some(
+            Timed {
+                deadline,
+                reading: Some(reading),
+            },
+        ) => {
+            let mut clock = SetClock::new(reading);
+            serve_by::<N, _, _, _, _>(rt, alloc, seed, plan, jobs, spawner, deadline, &mut clock)?
+        }
+        Some(
+            Timed {
+                deadline,
+                reading: None,
+            },
+        ) => {
+            let Some(mut clock) = SystemClock::starting_at(*rt, 0) else {
+                return Err(GatewayFault::Rejected);
+            };
+            serve_by::<N, _, _, _, _>(rt, alloc, seed, plan, jobs, spawner, deadline, &mut clock)?
+        }
     };
-    if let Some(reading) = timed.reading {
-        let mut clock = SetClock::new(reading);
-        return line_by(
-            rt,
-            alloc,
-            seed,
-            plan,
-            jobs,
-            spawner,
-            timed.deadline,
-            &mut clock,
-        );
-    }
-    match SystemClock::starting_at(*rt, 0) {
-        Some(mut clock) => {
-            line_by(
-                rt,
-                alloc,
-                seed,
-                plan,
-                jobs,
-                spawner,
-                timed.deadline,
-                &mut clock,
-            )
-        }
-        None => Err(GatewayFault::Rejected),
-    }
-}
-
-/// The same by the deadline, as the clock reads.
-fn line_by<N, S, R, K>(
-    rt: &R,
-    alloc: Global,
-    seed: Seed,
-    plan: &Plan,
-    jobs: Vec<NamedJob<Due, Asked>>,
-    spawner: S,
-    deadline: u64,
-    clock: &mut K,
-) -> Result<String, GatewayFault>
-where
-    N: RealmName,
-    S: Spawns<N, JobWork<Due, N, Asked>> + Drop,
-    R: Wait + SystemTime,
-    K: Clock,
-    requires { seed ≡ N.table }
-{
-    let served = serve_by::<N, _, _, _, _>(rt, alloc, seed, plan, jobs, spawner, deadline, clock);
-    said(rt, alloc, served)
-}
-
-/// The line of what was found, once main's context is left.
-fn said<N: RealmName, S: Spawner<N> + Drop, R: Wait>(
-    rt: &R,
-    alloc: Global,
-    served: Result<Found<S, N>, GatewayFault>,
-) -> Result<String, GatewayFault> {
-    match served {
-        Ok(Found { found, ctx }) => {
-            let (_token, _spawner) = ctx.leave(rt);
-            text_of(alloc, found)
-        }
-        Err(why) => Err(why),
-    }
-}
-
-fn text_of(alloc: Global, found: Result<Answer, GatewayFault>) -> Result<String, GatewayFault> {
+    let Found { found, ctx } = served;
+    let (_token, _spawner) = ctx.leave(rt);
     match found?.text(alloc) {
         Ok(line) => Ok(line),
         Err(_) => Err(GatewayFault::Memory),

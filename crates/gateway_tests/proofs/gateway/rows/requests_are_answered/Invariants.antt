@@ -3,6 +3,3 @@ use Rattle.gateway_tests.proofs.gateway.rows.requests_are_answered.Given as goal
 
 abbrev pub ghosts-over_a_pool : goal.ghosts-over_a_pool
 ghosts-over_a_pool g a = record { table = a.seed }
-
-abbrev pub ghosts-over_one_thread : goal.ghosts-over_one_thread
-ghosts-over_one_thread g a = record { table = a.seed }
