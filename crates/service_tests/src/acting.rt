@@ -1,16 +1,16 @@
 //! A service whose jobs and helpers act by one value: no clock, no runtime and no name of a realm in their signatures.
 
+use super::player::opened;
 use balkreyn::act::{
     Acts, Backoff, Came, Hooks, Limiter, Serves, Task, TypedTask, Worker, all_of, all_values,
-    bound, every, fork_value, limited, map_at_most, next_done, race, retry, scope, serve, shielded,
+    bound, every, fork_value, limited, map_at_most, next_done, race, retry, scope, serve,
 };
 use balkreyn::{
     CauseKind, End, Fault, JobError, Joiner, Name, Options, Outcome, Refusal, ScopeId,
-    ServiceAnswer, ServiceError, Slot, State, Typed, Value, Yields, named,
+    ServiceAnswer, ServiceError, State, Typed, Value, Yields, named,
 };
 use std::process::Abort;
 use std::test::Fail;
-use std::time::Instant;
 
 /// What the service forks: a shop that answers after so many milliseconds, one that never does, one that answers the
 /// number that its request is bound to, and typed jobs.
@@ -115,85 +115,65 @@ impl TypedTask<Shop> for AskStock {
     }
 }
 
-/// What the service comes to.
-#[derive(Clone, Copy)]
-struct Seen {
-    first: Option<i64>,
-    timed_out: bool,
-    waited: u128,
-    bindings: (Option<i64>, bool, bool),
-    shields: (bool, bool, bool),
-    slots: (Result<Stock, Refusal>, Result<Stock, Refusal>),
-    errors: Failures,
-    raced: (Result<Stock, NoStock>, bool),
-    in_time: (Option<u32>, Option<CauseKind>, Option<NoStock>),
-    tried: (Result<u32, Refusal>, Result<u32, Refusal>),
-    mapped: (bool, bool),
-    mapping: u128,
-    limits: (Option<bool>, bool, Option<u32>),
-    rounds: (u64, bool, u64, bool),
-    completed: (Done, Done, Done, bool),
-}
-
-/// What a job gives that has ended.
-type Done = Result<Stock, NoStock>;
-
-/// What the slot of a job that failed gives: its value; its error, once and again; and whether its task failed by the name
-/// that the error gives.
-#[derive(Clone, Copy)]
-struct Failures {
-    value: Option<Refusal>,
-    first: Result<Result<Stock, NoStock>, Refusal>,
-    again: Result<Result<Stock, NoStock>, Refusal>,
-    fault: bool,
-}
-
-/// The service, with a handle that reads the time for the test.
-#[derive(Clone, Copy)]
-struct Shops(HostRuntime);
+/// The service.
+#[derive(Drop)]
+struct Shops;
 
 impl ServiceAnswer for Shops {
-    type Answer = Seen;
+    /// What isn't so, if anything isn't.
+    type Answer = Option<&'static str>;
 
     type Error = ServiceError;
 }
 
 impl Serves<Shop> for Shops {
-    fn serve<X: Acts<Shop>>(self, cx: &mut X) -> Result<Seen, ServiceError> {
-        let first = first_of(cx)?;
-        let before = Instant::now(&self.0).map_err(|_| ServiceError::NoTime)?;
-        let timed_out = hung(cx)?;
-        let waited = before.elapsed(&self.0).map_err(|_| ServiceError::NoTime)?;
-        let bindings = bindings(cx)?;
-        let shields = shields(cx)?;
-        let slots = slots(cx)?;
-        let errors = errors(cx)?;
-        let raced = raced(cx, [(0, 0), (5, 60_000), (7, 10)]);
-        let none_won = raced_none(cx);
-        let in_time = had_in_time(cx)?;
-        let tried = (tried_until(cx, 2), tried_until(cx, 9));
-        let before = Instant::now(&self.0).map_err(|_| ServiceError::NoTime)?;
-        let mapped = mapped(cx)?;
-        let mapping = before.elapsed(&self.0).map_err(|_| ServiceError::NoTime)?;
+    fn serve<X: Acts<Shop>>(self, cx: &mut X) -> Result<Option<&'static str>, ServiceError> {
+        let taken = Stock { pieces: 3 };
+        let first = [
+            ("the first of three is taken", first_of(cx)? == Some(2)),
+            ("a deadline ends a join in time", hung_in_time(cx)?),
+            (
+                "a binding is seen, and is gone behind its body",
+                bindings(cx)?,
+            ),
+            (
+                "a slot gives its value behind the join",
+                slots(cx)? == (Err(Refusal::NotJoined), Ok(taken)),
+            ),
+            ("a slot gives its job's error once", errors(cx)?),
+            ("a race is won, or lost by all", races(cx)),
+            ("each came as it did in time", came_in_time(cx)?),
+            (
+                "a body is tried four times",
+                tried_until(cx, 2) == Ok(2) && tried_until(cx, 9).is_err(),
+            ),
+            ("mapped jobs answer in order, eight at a time", mapped(cx)?),
+        ];
         cx.retire()?;
-        Ok(Seen {
-            first,
-            timed_out,
-            waited: waited.as_millis(),
-            bindings,
-            shields,
-            slots,
-            errors,
-            raced: (raced, none_won),
-            in_time,
-            tried,
-            mapped: (mapped, failed(cx)?),
-            mapping: mapping.as_millis(),
-            limits: limits(cx)?,
-            rounds: rounds(cx)?,
-            completed: completed(cx)?,
-        })
+        let then = [
+            ("one that fails ends the others", failed(cx)?),
+            (
+                "a deadline ends the wait for a permit, which a body that failed gave back",
+                limits(cx)?,
+            ),
+            ("rounds end", rounds(cx, 3, 9)? == (3, false)),
+            (
+                "a cancel ends rounds",
+                rounds(cx, u64::MAX, 2)? == (3, true),
+            ),
+        ];
+        Ok(wrong_of(&first).or(wrong_of(&then)))
     }
+}
+
+/// The first that isn't so.
+fn wrong_of(found: &[(&'static str, bool)]) -> Option<&'static str> {
+    for (name, is_so) in found {
+        if !*is_so {
+            return Some(*name);
+        }
+    }
+    None
 }
 
 /// The first answer of three.
@@ -230,17 +210,26 @@ fn hung<X: Acts<Shop>>(cx: &mut X) -> Result<bool, Refusal> {
     })
 }
 
-/// What a job sees of its request's binding, and whether the binding is gone behind a body that succeeded, and behind
-/// one that failed.
-fn bindings<X: Acts<Shop>>(cx: &mut X) -> Result<(Option<i64>, bool, bool), Refusal> {
+/// Whether it does so within 400 milliseconds.
+fn hung_in_time<X: Acts<Shop>>(cx: &mut X) -> Result<bool, Refusal> {
+    let before = cx.now();
+    let is_hung = hung(cx)?;
+    let waited = cx.now().saturating_sub(before);
+    Ok(is_hung && 200 <= waited && waited < 400)
+}
+
+/// Whether a job sees its request's binding, and the binding is gone behind a body that succeeded, and behind one that failed.
+fn bindings<X: Acts<Shop>>(cx: &mut X) -> Result<bool, Refusal> {
     let request = named(b"request");
     let seen = bound(cx, request, Value::Num(7), by_request)?;
     let gone = cx.get(&request) == Err(Refusal::NotBound);
-    let failed: Result<(), Refusal> = bound(cx, request, Value::Num(8), |_cx| {
-        Err(Refusal::Unavailable)
-    });
+    let failed = bound(cx, request, Value::Num(8), gives_up);
     let gone_too = cx.get(&request) == Err(Refusal::NotBound);
-    Ok((seen, gone, failed.is_err() && gone_too))
+    Ok(seen == Some(7) && gone && failed.is_err() && gone_too)
+}
+
+fn gives_up<X: Acts<Shop>>(_cx: &mut X) -> Result<Option<i64>, Refusal> {
+    Err(Refusal::Unavailable)
 }
 
 /// What one job says of its request.
@@ -248,17 +237,6 @@ fn by_request<X: Acts<Shop>>(cx: &mut X) -> Result<Option<i64>, Refusal> {
     scope(cx, Joiner::Any, Options::PLAIN, |cx, scope| {
         cx.fork(scope, named(b"shop"), Shop::ByRequest)?;
         price_at(cx, scope)
-    })
-}
-
-/// Whether a body in a cancelled scope sees the cancel before a shield, under it, and behind it.
-fn shields<X: Acts<Shop>>(cx: &mut X) -> Result<(bool, bool, bool), Refusal> {
-    scope(cx, Joiner::AwaitAll, Options::PLAIN, |cx, scope| {
-        cx.cancel(scope)?;
-        let before = cx.sleep(1)?.is_some();
-        let under = shielded(cx, |cx, _scope| Ok::<bool, Refusal>(cx.sleep(1)?.is_some()))?;
-        let behind = cx.sleep(1)?.is_some();
-        Ok((before, under, behind))
     })
 }
 
@@ -278,22 +256,27 @@ fn slots<X: Acts<Shop>>(
     })
 }
 
-/// What the slot of a job that fails gives.
-fn errors<X: Acts<Shop>>(cx: &mut X) -> Result<Failures, Refusal> {
-    scope(cx, Joiner::AwaitAll, Options::PLAIN, |cx, scope| {
-        let empty = AskStock {
-            pieces: 0,
-            after: 0,
-        };
-        let empty = fork_value(cx, scope, named(b"stock"), empty)?;
-        cx.join(scope)?;
-        Ok(Failures {
-            value: empty.value(cx).err(),
-            first: empty.answer(cx),
-            again: empty.answer(cx),
-            fault: cx.state(empty.task())? == State::Failed(Fault(named(b"empty"))),
-        })
-    })
+/// Whether the slot of a job that fails gives no value, and its error once; and another's error before the join.
+fn errors<X: Acts<Shop>>(cx: &mut X) -> Result<bool, Refusal> {
+    let empty = AskStock {
+        pieces: 0,
+        after: 0,
+    };
+    let scope = opened(cx, Joiner::AwaitAll, Options::PLAIN)?;
+    let mut slots = Vec::new(cx.alloc());
+    slots.push(fork_value(cx, scope, named(b"stock"), empty)?)?;
+    let done = matches!(
+        next_done(cx, &mut slots)?,
+        Some(Came::Failed((_task, NoStock::Empty)))
+    );
+    let slot = fork_value(cx, scope, named(b"stock"), empty)?;
+    cx.join(scope)?;
+    let no_value = slot.value(cx) == Err(Refusal::NotSuccess);
+    let once = slot.answer(cx) == Ok(Err(NoStock::Empty));
+    let again = slot.answer(cx) == Err(Refusal::NotSuccess);
+    let is_failed = cx.state(slot.task())? == State::Failed(Fault(named(b"empty")));
+    cx.close(scope)?;
+    Ok(done && no_value && once && again && is_failed)
 }
 
 /// The jobs that answer so many pieces after so many milliseconds.
@@ -305,15 +288,21 @@ fn asks<X: Acts<Shop>>(cx: &mut X, shops: [(u32, u64); 3]) -> Result<Vec<AskStoc
     Ok(jobs)
 }
 
+/// Whether the first of three that has some wins, and if none has any, one loses for all.
+fn races<X: Acts<Shop>>(cx: &mut X) -> bool {
+    raced(cx, [(0, 0), (5, 60_000), (7, 10)]) == Ok(Stock { pieces: 7 })
+        && raced(cx, [(0, 0), (0, 10), (0, 0)]) == Err(NoStock::Empty)
+}
+
 /// The first of three that has some.
 fn raced<X: Acts<Shop>>(cx: &mut X, shops: [(u32, u64); 3]) -> Result<Stock, NoStock> {
     let jobs = asks(cx, shops)?;
     race(cx, named(b"stock"), Options::PLAIN, jobs)?.into_result()
 }
 
-/// Whether a race that nobody wins gives the error of one.
-fn raced_none<X: Acts<Shop>>(cx: &mut X) -> bool {
-    raced(cx, [(0, 0), (0, 10), (0, 0)]) == Err(NoStock::Empty)
+/// Whether that is so of the three.
+fn came_in_time<X: Acts<Shop>>(cx: &mut X) -> Result<bool, Refusal> {
+    Ok(had_in_time(cx)? == (Some(3), Some(CauseKind::Deadline), Some(NoStock::Empty)))
 }
 
 /// How many pieces the first of three has, why the second was cut off after 200 milliseconds, and why the third has none.
@@ -356,8 +345,9 @@ fn tried_until<X: Acts<Shop>>(cx: &mut X, enough: u32) -> Result<u32, Refusal> {
     })
 }
 
-/// Whether 32 jobs of 10 milliseconds, eight at a time, are each answered in order.
+/// Whether 32 jobs of 10 milliseconds, eight at a time, are each answered in order, and no sooner.
 fn mapped<X: Acts<Shop>>(cx: &mut X) -> Result<bool, Refusal> {
+    let before = cx.now();
     let mut jobs = Vec::new(cx.alloc());
     for pieces in 1..=32u32 {
         jobs.push(AskStock { pieces, after: 10 })?;
@@ -366,11 +356,14 @@ fn mapped<X: Acts<Shop>>(cx: &mut X) -> Result<bool, Refusal> {
     let Came::Value(stocks) = all_values(cx.alloc(), found)? else {
         return Ok(false);
     };
-    let in_order = stocks
-        .iter()
-        .zip(1..=32u32)
-        .all(|(stock, pieces)| stock.pieces == pieces);
-    Ok(stocks.len() == 32 && in_order)
+    let mut number = 0u32;
+    for stock in stocks.iter() {
+        number = number.saturating_add(1);
+        if stock.pieces != number {
+            return Ok(false);
+        }
+    }
+    Ok(number == 32 && cx.now().saturating_sub(before) >= 40)
 }
 
 /// Whether one that fails ends the others, of which one would take a minute and one never began: each says what it came to.
@@ -387,16 +380,20 @@ fn failed<X: Acts<Shop>>(cx: &mut X) -> Result<bool, Refusal> {
     }
 }
 
-/// Whether a deadline ends the wait for the one permit, which is held; whether a body that failed gave it back; and what
-/// the next body answers.
-fn limits<X: Acts<Shop>>(cx: &mut X) -> Result<(Option<bool>, bool, Option<u32>), Refusal> {
+/// Whether a deadline ends the wait for the one permit, which is held; and whether a body that failed gave it back.
+fn limits<X: Acts<Shop>>(cx: &mut X) -> Result<bool, Refusal> {
     let mut limiter = Limiter::new(cx.alloc(), 1)?;
     let mut another = limiter.share()?;
     let held = limited(cx, &mut limiter, |cx| waited_for(cx, &mut another))?;
-    let failed = limited(cx, &mut limiter, |_cx| Err::<u32, NoStock>(NoStock::Empty))?;
-    let next = limited(cx, &mut limiter, |_cx| Ok::<u32, Refusal>(7))?;
-    let is_failed = matches!(failed, Came::Failed(NoStock::Empty));
-    Ok((held.value(), is_failed, next.value()))
+    let mut given_back = true;
+    for enough in [9, 0] {
+        match limited(cx, &mut limiter, |cx| tried_until(cx, enough))? {
+            Came::Value(number) => given_back = given_back && number == enough,
+            Came::Failed(_refusal) => given_back = given_back && enough == 9,
+            Came::Cut(_) => return Ok(false),
+        }
+    }
+    Ok(held.value() == Some(true) && given_back)
 }
 
 /// Whether no permit comes within 50 milliseconds.
@@ -408,72 +405,25 @@ fn waited_for<X: Acts<Shop>>(cx: &mut X, limiter: &mut Limiter) -> Result<bool, 
     })
 }
 
-/// How many rounds are done of three, and whether no cancel came; how many in a scope that the third cancels, and whether
-/// that was shown.
-fn rounds<X: Acts<Shop>>(cx: &mut X) -> Result<(u64, bool, u64, bool), Refusal> {
-    let mut all = 0u64;
-    let ended = every(cx, 1, 3, |_cx, number| {
-        all = number.saturating_add(1);
-        Ok::<(), Refusal>(())
-    })?;
-    let mut some = 0u64;
-    let cancelled = scope(cx, Joiner::AwaitAll, Options::PLAIN, |cx, scope| {
-        every(cx, 1, u64::MAX, |cx, number| {
-            some = number.saturating_add(1);
-            if number == 2 {
+/// How many rounds are done of so many, if one behind so many others cancels the scope; and whether that was shown.
+fn rounds<X: Acts<Shop>>(cx: &mut X, rounds: u64, last: u64) -> Result<(u64, bool), Refusal> {
+    let mut done = 0u64;
+    let shown = scope(cx, Joiner::AwaitAll, Options::PLAIN, |cx, scope| {
+        every(cx, 1, rounds, |cx, number| {
+            done = number.saturating_add(1);
+            if number == last {
                 cx.cancel(scope)?;
             }
             Ok::<(), Refusal>(())
         })
     })?;
-    Ok((all, ended.is_none(), some, cancelled.is_some()))
-}
-
-/// What three give as they complete, before the join: the second at once, then one that fails, then the first; and whether
-/// nothing is left then.
-fn completed<X: Acts<Shop>>(cx: &mut X) -> Result<(Done, Done, Done, bool), Refusal> {
-    let jobs = asks(cx, [(1, 120), (2, 0), (0, 60)])?;
-    scope(cx, Joiner::AwaitAll, Options::PLAIN, |cx, scope| {
-        let mut slots = Vec::new(cx.alloc());
-        for job in jobs {
-            slots.push(fork_value(cx, scope, named(b"stock"), job)?)?;
-        }
-        let first = done(cx, &mut slots)?;
-        let second = done(cx, &mut slots)?;
-        let third = done(cx, &mut slots)?;
-        Ok((first, second, third, next_done(cx, &mut slots)?.is_none()))
-    })
-}
-
-/// What the next one gives.
-fn done<X: Acts<Shop>>(cx: &mut X, slots: &mut Vec<Slot<AskStock>>) -> Result<Done, Refusal> {
-    match next_done(cx, slots)? {
-        Some(Came::Value((_task, stock))) => Ok(Ok(stock)),
-        Some(Came::Failed((_task, error))) => Ok(Err(error)),
-        Some(Came::Cut(_)) | None => Err(Refusal::Unavailable),
-    }
+    Ok((done, shown.is_some()))
 }
 
 #[test]
 fn a_service_acts_by_one_value(rt: HostRuntime) -> Result<(), Fail> {
-    let seen = serve::<Shop, (), Shops, _>(&rt, rt.alloc(), 4, Hooks::none(), Shops(rt)).map_err(
-        |_| "a refusal",
-    )?;
-    assert!(rt; seen.first == Some(2));
-    assert!(rt; seen.timed_out && seen.waited >= 200 && seen.waited < 400);
-    assert!(rt; seen.bindings == (Some(7), true, true));
-    assert!(rt; seen.shields == (true, false, true));
-    assert!(rt; seen.slots == (Err(Refusal::NotJoined), Ok(Stock { pieces: 3 })));
-    assert!(rt; seen.raced == (Ok(Stock { pieces: 7 }), true));
-    assert!(rt; seen.tried == (Ok(2), Err(Refusal::Unavailable)));
-    assert!(rt; seen.in_time == (Some(3), Some(CauseKind::Deadline), Some(NoStock::Empty)));
-    assert!(rt; seen.mapped == (true, true) && seen.mapping >= 40);
-    assert!(rt; seen.limits == (Some(true), true, Some(7)));
-    let (one, two) = (Stock { pieces: 1 }, Stock { pieces: 2 });
-    assert!(rt; seen.completed == (Ok(two), Err(NoStock::Empty), Ok(one), true));
-    assert!(rt; seen.errors.value == Some(Refusal::NotSuccess) && seen.errors.fault);
-    assert!(rt; seen.errors.first == Ok(Err(NoStock::Empty)));
-    assert!(rt; seen.errors.again == Err(Refusal::NotSuccess));
-    assert!(rt; seen.rounds == (3, true, 3, true));
-    Ok(())
+    match serve::<Shop, (), Shops, _>(&rt, rt.alloc(), 4, Hooks::none(), Shops)? {
+        None => Ok(()),
+        Some(wrong) => Err(wrong.into()),
+    }
 }

@@ -1,5 +1,6 @@
-//! What the jobs of a service share: a channel, with its order, its room, its close, and what ends its waits; and permits.
+//! What the jobs of a service share: a channel, with its order, its close, and what ends its waits; and permits.
 
+use super::player::opened;
 use balkreyn::act::{
     Acts, Hooks, Limiter, Permit, Rate, Received, Receiver, Sender, Sent, Serves, Task, channel,
     each, receive, scope, send, serve,
@@ -29,23 +30,18 @@ impl Task for Counts {
     }
 }
 
-/// What the service sees: how many numbers came in order, and whether the channel was closed behind them, once by `receive` and
-/// once by `each`; whether a deadline ended a receive, and a send, whose value came back; what was left in a closed channel; and
-/// what came back from one whose receiver is gone.
+/// What the service sees: how many numbers came in order and whether the channel was closed behind them; their sum by `each`, and
+/// the same; whether a deadline ended a receive; and what came back from a channel whose receiver is gone.
 #[derive(Clone, Copy, PartialEq, Eq)]
 struct Seen {
-    in_order: u32,
-    closed: bool,
-    sum: u32,
-    closed_again: bool,
+    in_order: (u32, bool),
+    sum: (u32, bool),
     no_value: bool,
-    no_room: Option<u32>,
-    left: Option<u32>,
     too_late: Option<u32>,
 }
 
 /// The service.
-#[derive(Clone, Copy)]
+#[derive(Drop)]
 struct Counting;
 
 impl ServiceAnswer for Counting {
@@ -56,28 +52,16 @@ impl ServiceAnswer for Counting {
 
 impl Serves<Counts> for Counting {
     fn serve<X: Acts<Counts>>(self, cx: &mut X) -> Result<Seen, ServiceError> {
-        let (in_order, closed) = counted(cx)?;
-        let (sum, closed_again) = summed(cx)?;
+        let in_order = counted(cx)?;
+        let sum = summed(cx)?;
         let (into, from) = channel(cx.alloc(), 1)?;
         let no_value = matches!(waited_for(cx, &from)?, Received::Cancelled);
-        let first = send(cx, &into, 1)?;
-        let no_room = back(&waited_to_send(cx, &into, 2)?);
-        drop(into);
-        let left = match (first, receive(cx, &from)?, receive(cx, &from)?) {
-            (Sent::Done, Received::Value(number), Received::Closed) => Some(number),
-            _ => None,
-        };
-        let (into, from) = channel(cx.alloc(), 1)?;
         drop(from);
         let too_late = back(&send(cx, &into, 3)?);
         Ok(Seen {
             in_order,
-            closed,
             sum,
-            closed_again,
             no_value,
-            no_room,
-            left,
             too_late,
         })
     }
@@ -86,27 +70,24 @@ impl Serves<Counts> for Counting {
 /// How many numbers come in order from a job, over a channel with room for three, and whether it is closed behind them.
 fn counted<X: Acts<Counts>>(cx: &mut X) -> Result<(u32, bool), Refusal> {
     let (into, from) = channel(cx.alloc(), 3)?;
-    scope(cx, Joiner::All, Options::PLAIN, |cx, scope| {
-        cx.fork(scope, named(b"counts"), Counts { into })?;
-        let mut in_order = 0u32;
-        let mut closed = false;
-        for _ in 0..200 {
-            match receive(cx, &from)? {
-                Received::Value(number) if number == in_order => {
-                    in_order = in_order.saturating_add(1);
-                }
-                Received::Closed => {
-                    closed = true;
-                    break;
-                }
-                _ => break,
+    let scope = opened(cx, Joiner::All, Options::PLAIN)?;
+    cx.fork(scope, named(b"counts"), Counts { into })?;
+    let mut in_order = 0u32;
+    let mut closed = false;
+    for _ in 0..200u32 {
+        match receive(cx, &from)? {
+            Received::Value(number) if number == in_order => {
+                in_order = in_order.saturating_add(1);
+            }
+            received => {
+                closed = matches!(received, Received::Closed);
+                break;
             }
         }
-        match &cx.join(scope)?.outcome {
-            Outcome::All(_) => Ok((in_order, closed)),
-            _ => Ok((0, false)),
-        }
-    })
+    }
+    let is_sent = matches!(&cx.join(scope)?.outcome, Outcome::All(_));
+    cx.close(scope)?;
+    Ok((in_order, closed && is_sent))
 }
 
 /// The sum of the numbers that come from a job, and whether the channel is closed behind them.
@@ -135,21 +116,6 @@ fn waited_for<X: Acts<Counts>>(cx: &mut X, from: &Receiver<u32>) -> Result<Recei
     )
 }
 
-/// What a send comes to within 50 milliseconds.
-fn waited_to_send<X: Acts<Counts>>(
-    cx: &mut X,
-    into: &Sender<u32>,
-    number: u32,
-) -> Result<Sent<u32>, Refusal> {
-    let options = cx.move_on_after(50);
-    scope(
-        cx,
-        Joiner::AwaitAll,
-        options,
-        |cx, _scope| send(cx, into, number),
-    )
-}
-
 /// The number that came back.
 fn back(sent: &Sent<u32>) -> Option<u32> {
     match sent {
@@ -160,21 +126,11 @@ fn back(sent: &Sent<u32>) -> Option<u32> {
 
 #[test]
 fn a_channel_is_in_order_and_its_waits_end(rt: HostRuntime) -> Result<(), Fail> {
-    let seen = serve::<Counts, (), Counting, _>(
-        &rt,
-        rt.alloc(),
-        2,
-        Hooks::none(),
-        Counting,
-    ).map_err(|_| "refused")?;
+    let seen = serve::<Counts, (), Counting, _>(&rt, rt.alloc(), 2, Hooks::none(), Counting)?;
     let wanted = Seen {
-        in_order: 100,
-        closed: true,
-        sum: 4_950,
-        closed_again: true,
+        in_order: (100, true),
+        sum: (4_950, true),
         no_value: true,
-        no_room: Some(2),
-        left: Some(1),
         too_late: Some(3),
     };
     assert!(rt; seen == wanted);
@@ -229,7 +185,7 @@ fn begin_all<X: Acts<Visit>>(
 
 /// The service: how many jobs got a permit of two; whether one comes back from a job that is forked in a cancelled scope, and so
 /// never runs; and how many jobs began at a hundred a second, and whether that took long enough.
-#[derive(Clone, Copy)]
+#[derive(Drop)]
 struct Visiting;
 
 impl ServiceAnswer for Visiting {
@@ -242,28 +198,26 @@ impl Serves<Visit> for Visiting {
     fn serve<X: Acts<Visit>>(self, cx: &mut X) -> Result<(u32, bool, u32, bool), ServiceError> {
         let two = Limiter::new(cx.alloc(), 2)?;
         let options = cx.move_on_after(20_000);
-        let visits = scope(cx, Joiner::AwaitAll, options, |cx, scope| {
-            let visits = visit_all(cx, &two, scope, 400)?;
-            cx.join(scope)?;
-            Ok::<u32, Refusal>(visits)
-        })?;
+        let scope = opened(cx, Joiner::AwaitAll, options)?;
+        let visits = visit_all(cx, &two, scope, 400)?;
+        cx.join(scope)?;
+        cx.close(scope)?;
         let one = Limiter::new(cx.alloc(), 1)?;
-        scope(cx, Joiner::AwaitAll, Options::PLAIN, |cx, scope| {
-            cx.cancel(scope)?;
-            visit_all(cx, &one, scope, 1)?;
-            cx.join(scope)
-        })?;
         let options = cx.move_on_after(1_000);
-        let is_back = scope(cx, Joiner::AwaitAll, options, |cx, _scope| {
-            Ok::<bool, Refusal>(one.permit(cx)?.is_some())
-        })?;
+        let around = opened(cx, Joiner::AwaitAll, options)?;
+        let scope = opened(cx, Joiner::AwaitAll, Options::PLAIN)?;
+        cx.cancel(scope)?;
+        visit_all(cx, &one, scope, 1)?;
+        cx.join(scope)?;
+        cx.close(scope)?;
+        let is_back = one.permit(cx)?.is_some();
         let rate = Rate::new(cx.alloc(), 100)?;
+        cx.close(around)?;
         let before = cx.now();
-        let begun = scope(cx, Joiner::AwaitAll, Options::PLAIN, |cx, scope| {
-            let begun = begin_all(cx, &rate, &two, scope)?;
-            cx.join(scope)?;
-            Ok::<u32, Refusal>(begun)
-        })?;
+        let scope = opened(cx, Joiner::AwaitAll, Options::PLAIN)?;
+        let begun = begin_all(cx, &rate, &two, scope)?;
+        cx.join(scope)?;
+        cx.close(scope)?;
         let is_slow = cx.now().saturating_sub(before) >= 370;
         Ok((visits, is_back, begun, is_slow))
     }
@@ -271,9 +225,7 @@ impl Serves<Visit> for Visiting {
 
 #[test]
 fn jobs_begin_by_permits_and_at_a_rate(rt: HostRuntime) -> Result<(), Fail> {
-    let seen = serve::<Visit, (), Visiting, _>(&rt, rt.alloc(), 4, Hooks::none(), Visiting).map_err(
-        |_| "refused",
-    )?;
+    let seen = serve::<Visit, (), Visiting, _>(&rt, rt.alloc(), 4, Hooks::none(), Visiting)?;
     assert!(rt; seen == (400, true, 40, true));
     Ok(())
 }

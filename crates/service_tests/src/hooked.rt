@@ -132,7 +132,7 @@ fn hooked<R: PoolRuntime + SystemTime>(
 
 #[test]
 fn an_observer_sees_what_happens_and_a_cap_refuses(rt: HostRuntime) -> Result<(), Fail> {
-    let (seen, counted, wanted) = hooked(&rt, rt.alloc()).map_err(|_| "refused")?;
+    let (seen, counted, wanted) = hooked(&rt, rt.alloc())?;
     assert!(rt; wanted);
     assert!(rt; seen == (2, 1, 2, 2, 1));
     assert!(rt; counted == (0, 2, 1));

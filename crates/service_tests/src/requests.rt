@@ -6,6 +6,7 @@ use balkreyn::by_hand::{
     Answers, CanFork, Clock, Job, NamedJob, ScopeGuard, Service, Spawner, SystemClock, TaskCtx,
     fail_after, fork, realm_clock, serve_on_pool, within, within_by,
 };
+use balkreyn::looks::LogEntry;
 use balkreyn::realms::{RealmName, Seed};
 use balkreyn::{
     AnyEnd, End, Fault, Handle, Joiner, Label, Name, NoTime, Options, Outcome, PoolRuntime,
@@ -30,7 +31,7 @@ enum Failed {
     Unwanted,
 }
 
-/// A job that asks one shop for its price, inside a scope of its own. The shop takes so many milliseconds.
+/// A job that asks one shop for its price, inside a scope of its own. The shop takes so many milliseconds, or it lingers.
 #[derive(Clone, Copy)]
 struct Ask<T> {
     shop: Name,
@@ -39,12 +40,18 @@ struct Ask<T> {
     clock: SystemClock<T>,
 }
 
+/// How long a shop takes that lingers.
+const LINGERS: u64 = u64::MAX;
+
 impl<T> Answers for Ask<T> {
     ghost may_end = { λ job end. Unit {0} };
 }
 
 impl<T: Wait + SystemTime + Copy, N: RealmName, S: Spawner<N>> Job<AnyEnd, S, N> for Ask<T> {
-    fn run<R: Wait>(self, _rt: &R, ctx: &mut TaskCtx<AnyEnd, S, N>) -> End {
+    fn run<R: Wait>(self, rt: &R, ctx: &mut TaskCtx<AnyEnd, S, N>) -> End {
+        if self.takes == LINGERS {
+            return lingered(rt, ctx, self);
+        }
         let Ask {
             shop,
             price,
@@ -73,6 +80,35 @@ impl<T: Wait + SystemTime + Copy, N: RealmName, S: Spawner<N>> Job<AnyEnd, S, N>
     }
 }
 
+/// Once nobody wants it any more, it goes on behind a shield for 50 milliseconds. It waits without a clock.
+fn lingered<T: Wait + SystemTime + Copy, N: RealmName, S: Spawner<N>, R: Wait>(
+    rt: &R,
+    ctx: &mut TaskCtx<AnyEnd, S, N>,
+    ask: Ask<T>,
+) -> End {
+    let Ask {
+        shop,
+        price,
+        mut clock,
+        ..
+    } = ask;
+    let _unwanted = ctx.wait_cancelled(rt);
+    let options = Options {
+        shield: true,
+        ..fail_after(&mut clock, 50)
+    };
+    let inside = within(rt, ctx, Joiner::AwaitAll, options, |ctx, scope| {
+        match ctx.wait_cancelled(rt) {
+            Some(mark) => Ok(mark.scope == scope),
+            None => Err(Refusal::NotReady),
+        }
+    });
+    match inside {
+        Ok(true) => Ok(Value::Num(price)),
+        _ => Err(Fault(shop)),
+    }
+}
+
 /// How a request is written.
 #[derive(Clone, Copy)]
 enum Form {
@@ -88,6 +124,10 @@ enum Form {
     ClosedBefore,
     /// Over `within` inside a scope that is cancelled.
     Cancelled,
+    /// Over `within`, a guard, or a guard with a report, with a shop that lingers while its scope is closed.
+    ClosedWithin,
+    ClosedGuard,
+    ClosedReport,
 }
 
 /// A request: how it is written, and how much time it has, in milliseconds.
@@ -258,6 +298,55 @@ fn cancel_around<R: Wait, N: RealmName, S: Spawner<N>>(
     })
 }
 
+/// Forks the job, which lingers, in a scope, and closes that: its price if the job ended well, where a report says so.
+fn close_around<R: Wait + SystemTime + Copy, N: RealmName, S: CanFork<AnyEnd, N, Ask<R>>>(
+    rt: &R,
+    ctx: &mut TaskCtx<AnyEnd, S, N>,
+    job: Ask<R>,
+    form: Form,
+) -> Result<Option<i64>, Refusal> {
+    let mut clock = job.clock;
+    if let Form::ClosedWithin = form {
+        let found = within_by(
+            rt,
+            ctx,
+            Joiner::AwaitAll,
+            Options::PLAIN,
+            clock,
+            |ctx, scope| {
+                fork(rt, ctx, scope, job.shop, job)?;
+                Ok::<bool, Refusal>(true)
+            },
+        );
+        return match found {
+            Err(Refusal::NotJoined) => Ok(Some(job.price)),
+            _ => Ok(None),
+        };
+    }
+    let scope = ScopeGuard::at(rt, ctx, Joiner::AwaitAll, Options::PLAIN)?;
+    let forked = fork(rt, ctx, scope.number(), job.shop, job);
+    let mut well = None;
+    if let Form::ClosedReport = form {
+        match scope.report_by(rt, ctx, &mut clock) {
+            Ok(report) => {
+                for entry in report.log.entries() {
+                    if let LogEntry::Finish { end: Ok(_), .. } = entry {
+                        well = Some(job.price);
+                    }
+                }
+            }
+            Err((_refusal, back)) => {
+                back.close(rt, ctx)?;
+            }
+        }
+    } else {
+        scope.close_by(rt, ctx, &mut clock)?;
+        well = Some(job.price);
+    }
+    forked?;
+    Ok(well)
+}
+
 /// Serves the request in the form that it asks for.
 fn serve<R: Wait + SystemTime + Copy, N: RealmName, S: CanFork<AnyEnd, N, Ask<R>>>(
     rt: &R,
@@ -273,6 +362,9 @@ fn serve<R: Wait + SystemTime + Copy, N: RealmName, S: CanFork<AnyEnd, N, Ask<R>
         Form::GivesUp => close_after_giving_up(rt, ctx, asks.1),
         Form::ClosedBefore => close_twice(rt, ctx),
         Form::Cancelled => cancel_around(rt, ctx),
+        Form::ClosedWithin | Form::ClosedGuard | Form::ClosedReport => {
+            close_around(rt, ctx, asks.1, request.form)
+        }
     }
 }
 
@@ -322,21 +414,35 @@ fn one_request<N: RealmName + Send + Sync + 'static, R: PoolRuntime + SystemTime
     serve_on_pool::<N, Ask<R>, _, R>(rt, alloc, seed, 4, shops)
 }
 
+/// Each form, how long the second shop takes and how much time there is, in milliseconds, and what comes of it. An outcome names
+/// the scope around that was cancelled, the first of the realm.
+const FORMS: [(Form, u64, u64, Option<i64>); 10] = [
+    (Form::Within, 5, 60_000, Some(42)),
+    (Form::Within, 60_000, 50, None),
+    (Form::Guarded, 5, 60_000, Some(42)),
+    (Form::Guarded, 60_000, 50, None),
+    (Form::Reported, 5, 60_000, Some(42)),
+    (Form::Reported, 60_000, 50, None),
+    (Form::Cancelled, 0, 0, Some(1)),
+    (Form::ClosedWithin, LINGERS, 0, Some(12)),
+    (Form::ClosedGuard, LINGERS, 0, Some(12)),
+    (Form::ClosedReport, LINGERS, 0, Some(12)),
+];
+
+/// A close by a clock passes a deadline behind a shield, while nobody else waits by a clock.
 #[test]
 fn each_form_serves_its_request_or_its_time_runs_out(rt: HostRuntime) -> Result<(), Fail> {
     let shop = Name::new(b"shop").ok_or("a name")?;
-    for form in [Form::Within, Form::Guarded, Form::Reported] {
-        for (takes, millis, wanted) in [(5u64, 60_000u64, Some(42i64)), (60_000, 50, None)] {
-            let seed = Seed::new(rt.alloc())?;
-            let request = Request { form, millis };
-            let shops = TwoShops {
-                shop,
-                takes,
-                request,
-            };
-            let sum = one_request::<Brand, _>(&rt, rt.alloc(), seed, shops)?;
-            assert!(rt; sum == wanted);
-        }
+    for (form, takes, millis, wanted) in FORMS {
+        let seed = Seed::new(rt.alloc())?;
+        let request = Request { form, millis };
+        let shops = TwoShops {
+            shop,
+            takes,
+            request,
+        };
+        let sum = one_request::<Brand, _>(&rt, rt.alloc(), seed, shops)?;
+        assert!(rt; sum == wanted, "{takes} {millis}");
     }
     Ok(())
 }
@@ -364,22 +470,6 @@ fn a_scope_is_closed_once(rt: HostRuntime) -> Result<(), Fail> {
             "refused 3 closed"
         );
     }
-    Ok(())
-}
-
-#[test]
-fn an_outcome_names_the_scope_around_that_was_cancelled(rt: HostRuntime) -> Result<(), Fail> {
-    let shops = TwoShops {
-        shop: Name::new(b"shop").ok_or("a name")?,
-        takes: 0,
-        request: Request {
-            form: Form::Cancelled,
-            millis: 0,
-        },
-    };
-    let seed = Seed::new(rt.alloc())?;
-    let named = one_request::<Brand, _>(&rt, rt.alloc(), seed, shops)?;
-    assert!(rt; named == Some(1)); // the first scope of the realm, which lies around the second
     Ok(())
 }
 

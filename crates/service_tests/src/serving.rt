@@ -173,58 +173,19 @@ fn flow_of(limits: Limits) -> Flow {
     }
 }
 
-/// A shop with these requests, and its hooks, with a stop if it is stopped.
-fn shop_of(alloc: Global, load: Load, is_stopped: bool) -> Result<(Shop, Hooks<()>), Refusal> {
-    let stop = if is_stopped {
-        Some(Arc::new(alloc, Stop::new())?)
-    } else {
-        None
-    };
-    let asks = match &stop {
-        Some(stop) => Some(Arc::try_clone(stop)?),
-        None => None,
-    };
-    let shop = Shop {
-        load,
-        asked: AtomicU32::new(0),
-        tally: Arc::new(alloc, Tally::new())?,
-        stop: asks,
-    };
-    let hooks = Hooks {
-        stop,
-        ..Hooks::none()
-    };
-    Ok((shop, hooks))
-}
-
-/// Serves these requests; what was counted, and why the service ended if not by its source or stop.
-fn served<R: PoolRuntime + SystemTime>(
-    rt: &R,
-    alloc: Global,
-    flow: Flow,
-    load: Load,
-    is_stopped: bool,
-) -> Result<(Arc<Tally, Global>, Option<ServiceError>), Refusal> {
-    let (shop, hooks) = shop_of(alloc, load, is_stopped)?;
-    let tally = Arc::try_clone(&shop.tally)?;
-    let source = Arc::new(alloc, shop)?;
-    let ended = serve_requests::<Work, (), Shop, R>(rt, alloc, flow, hooks, source);
-    Ok((tally, ended.err()))
-}
-
-/// A shop with a stop that gives one request more behind that, once so many were stopped.
+/// A shop that may give one request more, behind its stop, once so many were stopped.
 #[derive(Drop)]
 struct LateShop {
     shop: Shop,
-    stopped: u32,
+    stopped: Option<u32>,
     late: AtomicU32,
 }
 
 impl LateShop {
     /// Returns once so many were stopped, and a tenth of a second later.
-    fn await_stopped<X: Acts<Work>>(&self, cx: &mut X) {
+    fn await_stopped<X: Acts<Work>>(&self, cx: &mut X, stopped: u32) {
         for _ in 0..u32::MAX {
-            if self.shop.tally.stopped.load(Ordering::SeqCst) >= self.stopped {
+            if self.shop.tally.stopped.load(Ordering::SeqCst) >= stopped {
                 break;
             }
             thread::yield_now();
@@ -241,10 +202,11 @@ impl Source<Work> for LateShop {
         if let Some(request) = self.shop.next(cx) {
             return Some(request);
         }
+        let stopped = self.stopped?;
         if self.late.fetch_add(1, Ordering::SeqCst) > 0 {
             return None;
         }
-        self.await_stopped(cx);
+        self.await_stopped(cx, stopped);
         let tally = Arc::try_clone(&self.shop.tally).ok()?;
         let kind = Kind::Quick;
         Some((named(b"late"), Work { kind, tally }))
@@ -255,16 +217,45 @@ impl Source<Work> for LateShop {
     }
 }
 
-/// The same as `served`, of such a shop.
-fn served_late<R: PoolRuntime + SystemTime>(
+/// How requests come to an end that is none of their own.
+#[derive(Clone, Copy)]
+enum Ends {
+    BySource,
+    ByStop,
+    /// By the stop, and one comes behind that, once so many were stopped.
+    Late(u32),
+}
+
+/// Serves these requests; what was counted, and why the service ended if not by its source or stop.
+fn served<R: PoolRuntime + SystemTime>(
     rt: &R,
     alloc: Global,
     flow: Flow,
     load: Load,
-    stopped: u32,
+    ends: Ends,
 ) -> Result<(Arc<Tally, Global>, Option<ServiceError>), Refusal> {
-    let (shop, hooks) = shop_of(alloc, load, true)?;
-    let tally = Arc::try_clone(&shop.tally)?;
+    let (stop, asks) = match ends {
+        Ends::BySource => (None, None),
+        Ends::ByStop | Ends::Late(_) => {
+            let stop = Arc::new(alloc, Stop::new())?;
+            (Some(Arc::try_clone(&stop)?), Some(stop))
+        }
+    };
+    let hooks = Hooks {
+        stop,
+        ..Hooks::none()
+    };
+    let tally = Arc::new(alloc, Tally::new())?;
+    let shop = Shop {
+        load,
+        asked: AtomicU32::new(0),
+        tally: Arc::try_clone(&tally)?,
+        stop: asks,
+    };
+    let stopped = match ends {
+        Ends::Late(stopped) => Some(stopped),
+        _ => None,
+    };
     let shop = LateShop {
         shop,
         stopped,
@@ -273,169 +264,6 @@ fn served_late<R: PoolRuntime + SystemTime>(
     let source = Arc::new(alloc, shop)?;
     let ended = serve_requests::<Work, (), LateShop, R>(rt, alloc, flow, hooks, source);
     Ok((tally, ended.err()))
-}
-
-/// So many requests, of each hundred of which the first three are of these kinds.
-fn mixed(requests: u32, kinds: [Kind; 3]) -> Load {
-    Load {
-        requests,
-        round: 100,
-        kinds,
-    }
-}
-
-/// So many quick requests.
-fn quick(requests: u32) -> Load {
-    mixed(requests, [Kind::Quick, Kind::Quick, Kind::Quick])
-}
-
-#[test]
-fn a_hundred_thousand_requests_are_answered_or_told_once(rt: HostRuntime) -> Result<(), Fail> {
-    let flow = Flow {
-        deadline: 50,
-        ..flow_of(Limits::GREATEST)
-    };
-    let load = mixed(100_000, [Kind::Fails, Kind::Naps(60_000), Kind::Naps(2)]);
-    let (tally, why) = served(&rt, rt.alloc(), flow, load, false).map_err(|_| "no memory")?;
-    let (answered, refused, failed, late, stopped) = tally.counts();
-    assert!(rt; why.is_none() && refused == 0 && stopped == 0);
-    assert!(rt; failed <= 1_000 && late >= 1_000 && answered <= 98_000);
-    assert!(rt; answered.saturating_add(failed).saturating_add(late) == 100_000);
-    assert!(rt; tally.most.load(Ordering::SeqCst) <= 50);
-    Ok(())
-}
-
-/// Realms that have room for eight requests each; 40 come, and the first is done once 39 were answered.
-#[test]
-fn a_slow_request_holds_up_no_other(rt: HostRuntime) -> Result<(), Fail> {
-    let limits = Limits::new(11, 8, 200).ok_or("limits")?;
-    let flow = Flow {
-        deadline: 60_000,
-        ..flow_of(limits)
-    };
-    let load = mixed(40, [Kind::Waits(39), Kind::Quick, Kind::Quick]);
-    let (tally, why) = served(&rt, rt.alloc(), flow, load, false).map_err(|_| "no memory")?;
-    assert!(rt; why.is_none() && tally.counts() == (40, 0, 0, 0, 0));
-    Ok(())
-}
-
-#[test]
-fn what_is_too_big_for_an_empty_realm_is_refused(rt: HostRuntime) -> Result<(), Fail> {
-    let limits = Limits::new(3, 1, 13).ok_or("limits")?; // room for the scopes of a turn, and for no task
-    let (tally, why) = served(&rt, rt.alloc(), flow_of(limits), quick(7), false).map_err(
-        |_| "no memory",
-    )?;
-    assert!(rt; why.is_none() && tally.counts() == (0, 7, 0, 0, 0));
-    Ok(())
-}
-
-#[test]
-fn an_owner_without_room_for_a_turn_ends_the_service(rt: HostRuntime) -> Result<(), Fail> {
-    let limits = Limits::new(2, 1, 13).ok_or("limits")?;
-    let (tally, why) = served(&rt, rt.alloc(), flow_of(limits), quick(7), false).map_err(
-        |_| "no memory",
-    )?;
-    assert!(rt; why == Some(ServiceError::Refused(Refusal::TooMany)));
-    assert!(rt; tally.counts() == (0, 0, 0, 0, 0));
-    Ok(())
-}
-
-/// The first owner gets no time. The other would serve for ever, a request a millisecond; it doesn't go on until its realm is
-/// full.
-#[test]
-fn an_owner_that_fails_alone_ends_the_service(rt: HostRuntime) -> Result<(), Fail> {
-    let faltering = Counting::faltering(rt, rt.alloc())?;
-    let flow = Flow {
-        per_second: 1_000,
-        ..flow_of(Limits::GREATEST)
-    };
-    let (tally, why) = served(&faltering, rt.alloc(), flow, quick(u32::MAX), false).map_err(
-        |_| "no memory",
-    )?;
-    assert!(rt; why == Some(ServiceError::NoTime));
-    assert!(rt; tally.counts().0 < 2_000);
-    Ok(())
-}
-
-/// Two requests end within the grace, and two would take an hour. The source waits for an hour, too.
-#[test]
-fn a_stop_gives_grace_to_what_runs(rt: HostRuntime) -> Result<(), Fail> {
-    let flow = Flow {
-        deadline: u64::MAX,
-        ..flow_of(Limits::GREATEST)
-    };
-    let load = Load {
-        requests: 4,
-        round: 2,
-        kinds: [Kind::Naps(3_600_000), Kind::Naps(50), Kind::Quick],
-    };
-    let (tally, why) = served(&rt, rt.alloc(), flow, load, true).map_err(|_| "no memory")?;
-    assert!(rt; why.is_none() && tally.counts() == (2, 0, 0, 0, 2));
-    Ok(())
-}
-
-/// Realms that have room for six requests each: the source asks for the stop in the first turn, or in the second.
-#[test]
-fn a_stop_ends_the_wait_of_either_owner(rt: HostRuntime) -> Result<(), Fail> {
-    for requests in [3, 9, 3, 9, 3, 9] {
-        let flow = Flow {
-            deadline: u64::MAX,
-            ..flow_of(Limits::new(11, 8, 200).ok_or("limits")?)
-        };
-        let load = quick(requests);
-        let (tally, why) = served(&rt, rt.alloc(), flow, load, true).map_err(|_| "no memory")?;
-        assert!(rt; why.is_none() && tally.counts() == (requests, 0, 0, 0, 0));
-    }
-    Ok(())
-}
-
-/// Realms that have room for six requests each: one would take an hour in the first, and the source waits behind the second.
-#[test]
-fn a_stop_reaches_both_realms(rt: HostRuntime) -> Result<(), Fail> {
-    let flow = Flow {
-        deadline: u64::MAX,
-        grace: 50,
-        ..flow_of(Limits::new(11, 8, 200).ok_or("limits")?)
-    };
-    let load = mixed(9, [Kind::Naps(3_600_000), Kind::Quick, Kind::Quick]);
-    let (tally, why) = served(&rt, rt.alloc(), flow, load, true).map_err(|_| "no memory")?;
-    assert!(rt; why.is_none() && tally.counts() == (8, 0, 0, 0, 1));
-    Ok(())
-}
-
-#[test]
-fn so_many_run_at_once_and_no_more(rt: HostRuntime) -> Result<(), Fail> {
-    for at_once in [1, 3] {
-        let flow = Flow {
-            at_once,
-            deadline: u64::MAX,
-            ..flow_of(Limits::GREATEST)
-        };
-        let load = Load {
-            requests: 12,
-            round: 1,
-            kinds: [Kind::Naps(30), Kind::Quick, Kind::Quick],
-        };
-        let (tally, why) = served(&rt, rt.alloc(), flow, load, false).map_err(|_| "no memory")?;
-        assert!(rt; why.is_none() && tally.counts() == (12, 0, 0, 0, 0));
-        assert!(rt; tally.most.load(Ordering::SeqCst) == at_once);
-    }
-    Ok(())
-}
-
-/// The first waits its turn, too, and what ten milliseconds have room for may be caught up.
-#[test]
-fn so_many_begin_in_a_second_and_no_more(rt: HostRuntime) -> Result<(), Fail> {
-    let flow = Flow {
-        per_second: 50,
-        ..flow_of(Limits::GREATEST)
-    };
-    let before = Instant::now(&rt).map_err(|_| "no time")?;
-    let (tally, why) = served(&rt, rt.alloc(), flow, quick(20), false).map_err(|_| "no memory")?;
-    let took = before.elapsed(&rt).map_err(|_| "no time")?;
-    assert!(rt; why.is_none() && tally.counts() == (20, 0, 0, 0, 0));
-    assert!(rt; took.as_millis() >= 370);
-    Ok(())
 }
 
 /// The flow of requests that reckons a task for each, and no scope for its deadline.
@@ -450,61 +278,324 @@ fn without_scopes(limits: Limits) -> Flow {
     }
 }
 
-/// The flow of requests that are reckoned to need nothing, in realms with room for eight tasks.
-fn unreckoned() -> Option<Flow> {
-    let request = Need {
-        scopes: 0,
-        tasks: 0,
-        steps: 0,
+/// What a request is reckoned to need.
+#[derive(Clone, Copy)]
+enum Reckoned {
+    Plainly,
+    WithoutScope,
+    AsNothing,
+}
+
+/// Requests, how they flow, and what becomes of them.
+#[derive(Clone, Copy)]
+struct Row {
+    name: &'static str,
+    limits: (u32, u32, u32),
+    reckoned: Reckoned,
+    at_once: u32,
+    per_second: u32,
+    deadline: u64,
+    grace: u64,
+    load: Load,
+    ends: Ends,
+    /// How many are answered, and of those that are lost how many are refused, failed, late, and stopped.
+    wanted: (u32, u32, u32, u32, u32),
+    refused: Option<Refusal>,
+    /// How many run at once at the most, and how many milliseconds it takes at least.
+    most: Option<u32>,
+    least: u128,
+    /// How often it is served.
+    rounds: u32,
+}
+
+impl Row {
+    /// How its requests flow, if there are such limits.
+    fn flow(self) -> Option<Flow> {
+        let (scopes, tasks, load) = self.limits;
+        let limits = Limits::new(scopes, tasks, load)?;
+        let flow = match self.reckoned {
+            Reckoned::Plainly => flow_of(limits),
+            Reckoned::WithoutScope => without_scopes(limits),
+            Reckoned::AsNothing => Flow {
+                request: NOTHING,
+                ..flow_of(limits)
+            },
+        };
+        Some(Flow {
+            at_once: self.at_once,
+            per_second: self.per_second,
+            deadline: self.deadline,
+            grace: self.grace,
+            ..flow
+        })
+    }
+}
+
+/// What needs nothing of a realm.
+const NOTHING: Need = Need {
+    scopes: 0,
+    tasks: 0,
+    steps: 0,
+};
+
+/// Realms with the greatest limits, and such as have room for six requests each, beside those of a turn.
+const GREATEST: (u32, u32, u32) = (4_096, 65_536, 1_048_576);
+
+const SMALL: (u32, u32, u32) = (11, 8, 200);
+
+/// Quick requests.
+const QUICK: Load = Load {
+    requests: 7,
+    round: 100,
+    kinds: [Kind::Quick, Kind::Quick, Kind::Quick],
+};
+
+/// Seven quick requests without a deadline, in the greatest realms.
+const PLAIN: Row = Row {
+    name: "plain",
+    limits: GREATEST,
+    reckoned: Reckoned::Plainly,
+    at_once: 50,
+    per_second: u32::MAX,
+    deadline: u64::MAX,
+    grace: 500,
+    load: QUICK,
+    ends: Ends::BySource,
+    wanted: (7, 0, 0, 0, 0),
+    refused: None,
+    most: None,
+    least: 0,
+    rounds: 1,
+};
+
+/// Twelve requests that take thirty milliseconds each.
+const TWELVE: Load = Load {
+    requests: 12,
+    round: 1,
+    kinds: [Kind::Naps(30), Kind::Quick, Kind::Quick],
+};
+
+const ROWS: [Row; 13] = [
+    Row {
+        name: "a slow request, done once 39 were answered, holds up no other",
+        limits: SMALL,
+        deadline: 60_000,
+        load: Load {
+            requests: 40,
+            round: 100,
+            kinds: [Kind::Waits(39), Kind::Quick, Kind::Quick],
+        },
+        wanted: (40, 0, 0, 0, 0),
+        ..PLAIN
+    },
+    Row {
+        name: "realms with room for the scopes of a turn, and for no task: what is too big for an empty one is refused",
+        limits: (3, 1, 13),
+        deadline: 200,
+        wanted: (0, 7, 0, 0, 0),
+        ..PLAIN
+    },
+    Row {
+        name: "an owner without room for a turn ends the service",
+        limits: (2, 1, 13),
+        deadline: 200,
+        wanted: (0, 0, 0, 0, 0),
+        refused: Some(Refusal::TooMany),
+        ..PLAIN
+    },
+    Row {
+        name: "a stop gives grace to what runs: two end within it, two and the source would take an hour",
+        load: Load {
+            requests: 4,
+            round: 2,
+            kinds: [Kind::Naps(3_600_000), Kind::Naps(50), Kind::Quick],
+        },
+        ends: Ends::ByStop,
+        wanted: (2, 0, 0, 0, 2),
+        ..PLAIN
+    },
+    Row {
+        name: "a stop ends the wait of the first owner",
+        limits: SMALL,
+        load: Load {
+            requests: 3,
+            ..QUICK
+        },
+        ends: Ends::ByStop,
+        wanted: (3, 0, 0, 0, 0),
+        rounds: 3,
+        ..PLAIN
+    },
+    Row {
+        name: "a stop ends the wait of the second owner",
+        limits: SMALL,
+        load: Load {
+            requests: 9,
+            ..QUICK
+        },
+        ends: Ends::ByStop,
+        wanted: (9, 0, 0, 0, 0),
+        rounds: 3,
+        ..PLAIN
+    },
+    Row {
+        name: "a stop reaches both realms: one takes an hour in the first, and the source waits behind the second",
+        limits: SMALL,
+        grace: 50,
+        load: Load {
+            requests: 9,
+            round: 100,
+            kinds: [Kind::Naps(3_600_000), Kind::Quick, Kind::Quick],
+        },
+        ends: Ends::ByStop,
+        wanted: (8, 0, 0, 0, 1),
+        ..PLAIN
+    },
+    Row {
+        name: "one runs at once",
+        at_once: 1,
+        load: TWELVE,
+        wanted: (12, 0, 0, 0, 0),
+        most: Some(1),
+        ..PLAIN
+    },
+    Row {
+        name: "three run at once",
+        at_once: 3,
+        load: TWELVE,
+        wanted: (12, 0, 0, 0, 0),
+        most: Some(3),
+        ..PLAIN
+    },
+    Row {
+        name: "so many begin in a second: the first waits, too, and what ten milliseconds have room for is caught up",
+        per_second: 50,
+        deadline: 200,
+        load: Load {
+            requests: 20,
+            ..QUICK
+        },
+        wanted: (20, 0, 0, 0, 0),
+        least: 370,
+        ..PLAIN
+    },
+    Row {
+        name: "a request for which there is no room goes to the other realm",
+        limits: SMALL,
+        reckoned: Reckoned::AsNothing,
+        load: Load {
+            requests: 40,
+            ..QUICK
+        },
+        wanted: (40, 0, 0, 0, 0),
+        ..PLAIN
+    },
+    Row {
+        name: "a request behind a stop is told so: the grace is over when the last comes",
+        grace: 0,
+        load: Load {
+            requests: 1,
+            round: 100,
+            kinds: [Kind::Naps(3_600_000), Kind::Quick, Kind::Quick],
+        },
+        ends: Ends::Late(1),
+        wanted: (0, 0, 0, 0, 2),
+        ..PLAIN
+    },
+    Row {
+        name: "a realm without a scope beside the three of a turn: a request whose scope is refused is told so",
+        limits: (3, 8, 200),
+        reckoned: Reckoned::WithoutScope,
+        deadline: 200,
+        load: Load {
+            requests: 20,
+            ..QUICK
+        },
+        wanted: (0, 20, 0, 0, 0),
+        ..PLAIN
+    },
+];
+
+/// Whether the row goes as it says.
+fn is_right<R: PoolRuntime + SystemTime>(rt: R, alloc: Global, row: Row) -> Option<bool> {
+    let flow = row.flow()?;
+    let before = Instant::now(&rt).ok()?;
+    let (tally, why) = served(&rt, alloc, flow, row.load, row.ends).ok()?;
+    let took = before.elapsed(&rt).ok()?.as_millis();
+    let why_wanted = match why {
+        None => row.refused.is_none(),
+        Some(ServiceError::Refused(refusal)) => row.refused == Some(refusal),
+        Some(_) => false,
     };
-    Some(Flow {
-        deadline: u64::MAX,
-        request,
-        ..flow_of(Limits::new(11, 8, 200)?)
-    })
+    let is_most = match row.most {
+        None => true,
+        Some(most) => tally.most.load(Ordering::SeqCst) == most,
+    };
+    Some(why_wanted && is_most && tally.counts() == row.wanted && took >= row.least)
 }
 
 #[test]
-fn a_request_for_which_there_is_no_room_goes_to_the_other_realm(
-    rt: HostRuntime,
-) -> Result<(), Fail> {
-    let flow = unreckoned().ok_or("limits")?;
-    let (tally, why) = served(&rt, rt.alloc(), flow, quick(40), false).map_err(|_| "no memory")?;
-    assert!(rt; why.is_none() && tally.counts() == (40, 0, 0, 0, 0));
+fn each_row_of_requests_goes_as_it_says(rt: HostRuntime) -> Result<(), Fail> {
+    for row in ROWS {
+        for _ in 0..row.rounds {
+            assert!(rt; is_right(rt, rt.alloc(), row) == Some(true), "{}", row.name);
+        }
+    }
     Ok(())
 }
 
-/// With the watch for the stop a realm has room for seven. The last is put back behind the stop, for which the other owner
-/// begins no more, as a rule.
+#[test]
+fn a_hundred_thousand_requests_are_answered_or_told_once(rt: HostRuntime) -> Result<(), Fail> {
+    let flow = Flow {
+        deadline: 50,
+        ..flow_of(Limits::GREATEST)
+    };
+    let load = Load {
+        requests: 100_000,
+        round: 100,
+        kinds: [Kind::Fails, Kind::Naps(60_000), Kind::Naps(2)],
+    };
+    let (tally, why) = served(&rt, rt.alloc(), flow, load, Ends::BySource)?;
+    let (answered, refused, failed, late, stopped) = tally.counts();
+    assert!(rt; why.is_none() && refused == 0 && stopped == 0);
+    assert!(rt; failed <= 1_000 && late >= 1_000 && answered <= 98_000);
+    assert!(rt; answered.saturating_add(failed).saturating_add(late) == 100_000);
+    assert!(rt; tally.most.load(Ordering::SeqCst) <= 50);
+    Ok(())
+}
+
+/// The first owner gets no time. The other would serve for ever, a request a millisecond; it doesn't go on until its realm is
+/// full.
+#[test]
+fn an_owner_that_fails_alone_ends_the_service(rt: HostRuntime) -> Result<(), Fail> {
+    let faltering = Counting::faltering(rt, rt.alloc())?;
+    let flow = Flow {
+        per_second: 1_000,
+        ..flow_of(Limits::GREATEST)
+    };
+    let load = Load {
+        requests: u32::MAX,
+        ..QUICK
+    };
+    let (tally, why) = served(&faltering, rt.alloc(), flow, load, Ends::BySource)?;
+    assert!(rt; why == Some(ServiceError::NoTime));
+    assert!(rt; tally.counts().0 < 2_000);
+    Ok(())
+}
+
+/// With the watch for the stop a realm has room for seven requests that are reckoned to need nothing. The last is put back
+/// behind the stop, for which the other owner begins no more, as a rule.
 #[test]
 fn a_request_that_was_put_back_is_answered_or_told(rt: HostRuntime) -> Result<(), Fail> {
-    let flow = unreckoned().ok_or("limits")?;
-    let (tally, why) = served_late(&rt, rt.alloc(), flow, quick(7), 0).map_err(|_| "no memory")?;
+    let row = Row {
+        limits: SMALL,
+        reckoned: Reckoned::AsNothing,
+        ..PLAIN
+    };
+    let flow = row.flow().ok_or("limits")?;
+    let (tally, why) = served(&rt, rt.alloc(), flow, QUICK, Ends::Late(0))?;
     let (answered, refused, failed, late, stopped) = tally.counts();
     assert!(rt; why.is_none() && (refused, failed, late) == (0, 0, 0));
     assert!(rt; answered >= 7 && answered.saturating_add(stopped) == 8);
-    Ok(())
-}
-
-/// The grace is over when the last request comes.
-#[test]
-fn a_request_behind_a_stop_is_told_so(rt: HostRuntime) -> Result<(), Fail> {
-    let flow = Flow {
-        deadline: u64::MAX,
-        grace: 0,
-        ..flow_of(Limits::GREATEST)
-    };
-    let load = mixed(1, [Kind::Naps(3_600_000), Kind::Quick, Kind::Quick]);
-    let (tally, why) = served_late(&rt, rt.alloc(), flow, load, 1).map_err(|_| "no memory")?;
-    assert!(rt; why.is_none() && tally.counts() == (0, 0, 0, 0, 2));
-    Ok(())
-}
-
-/// A realm has no scope to give beside the three of a turn.
-#[test]
-fn a_request_whose_scope_is_refused_is_told_so(rt: HostRuntime) -> Result<(), Fail> {
-    let flow = without_scopes(Limits::new(3, 8, 200).ok_or("limits")?);
-    let (tally, why) = served(&rt, rt.alloc(), flow, quick(20), false).map_err(|_| "no memory")?;
-    assert!(rt; why.is_none() && tally.counts() == (0, 20, 0, 0, 0));
     Ok(())
 }
