@@ -1,7 +1,7 @@
 -- What is done by a context that knows the realm's time: each wait reads a copy of its clock.
 use Rattle.std.specs.Prelude.{ℕ, ◌*◌, ◌+◌, ◌-◌, ◌^◌, ◌≡◌, ◌≤◌, ◌⊎◌, Err, IfSome, IsErrAnd, None, Ok, Option, Result, Some, min}
 use Rattle.scope_rules.specs.declared.types.answers.Effective.TheVariants.{Never}
-use Rattle.balkreyn.specs.Words.{At, Backoff, Bind, CalledWithState, DoesOrMemory, Effective, Expiry, Happened, HasCome, HasPassed, History, IsAfter, Joined, JoinsBy, Mark, Mut, MutBor, Name, Once, Options, OwnerValue, Past}
+use Rattle.balkreyn.specs.Words.{At, Backoff, Bind, CalledWithState, DoesOrMemory, Effective, Expiry, Happened, HasCome, HasPassed, History, IsAfter, Joined, Joins, JoinsBy, Mark, Mut, MutBor, Name, Once, Options, OwnerValue, Past}
 use Rattle.balkreyn.specs.Words.{Refusal, Seen, Shows, Stopped, Unbind, Value, Verdict, Waited, answering, effective, history_seen, shown_in, until_check}
 use Rattle.balkreyn.specs.Bodies.{ClosesFrom}
 
@@ -37,7 +37,7 @@ pub record RemainsNow {K : Type 0} (reads : K → K → ℕ → Type 0) (start :
 -- a join by a copy of this clock
 pub record JoinsFrom {K : Type 0} (reads : K → K → ℕ → Type 0) (start : K) (old new : OwnerValue) (scope : ℕ) (result : Result Joined Refusal) : Type 0 where
   pub last : K
-  pub joins : JoinsBy reads old new start last scope result
+  pub joins : JoinsBy reads Joins old new start last scope result
 
 -- what a sleep until the moment did and answered: it waited, and where there is no mark the moment has passed; or a tick
 -- was refused

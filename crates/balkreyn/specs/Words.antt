@@ -8,7 +8,7 @@ pub use Rattle.cancel_marks.specs.declared.marks.Mark.{Mark}
 pub use Rattle.job_runner.specs.{Lists.ListsBelow, Lists.ListsOne, Marks.Shows, Marks.seat_here, Reports.ClosesHere, Reports.StaysHere, Rooms.DoesInRoom}
 pub use Rattle.job_runner.specs.declared.forking.ForkRefusal.{ForkRefusal}
 pub use Rattle.join_rules.specs.Joiners.{policy_of}
-pub use Rattle.realm_core.specs.{Calls.DoesOrMemory, Calls.Reads, Calls.RecordsOrMemory, Calls.SeesMore, Calls.history_seen, Closes.ClosesBare, Views.Joins, Views.JoinsBare, Waiting.FoundUnsettled, Waiting.IsOpenOf}
+pub use Rattle.realm_core.specs.{Calls.DoesOrMemory, Calls.Reads, Calls.RecordsOrMemory, Calls.SeesMore, Calls.history_seen, Closes.ClosesBare, Views.Joins, Waiting.FoundUnsettled, Waiting.IsOpenOf}
 pub use Rattle.realm_core.specs.declared.joins.Joined.{Joined}
 pub use Rattle.realm_lock.specs.Looks.{IsSeen}
 pub use Rattle.scope_rules.specs.{Checks.task_check, Ends.EndValue, Ends.LabelValue, History.History, NameText.begins_with_letter, NameText.is_inner, Names.text_of, Replies.next_scope, Table.answering}

@@ -13,6 +13,6 @@ pub use job_runner::{
     Answers, Clock, ForkRefusal, ForkedJobs, Job, JobWork, NamedJob, SetClock, SystemClock,
     TaskCtx, fail_after, move_on_after, pulse,
 };
-pub use realm_lock::BareOutcome;
+pub use realm_lock::{BareOutcome, JoinAnswer, Never, Time};
 pub use scope_rules::{Catalog, Due};
-pub use thread_pool::{OsThreads, Recalls, Spawner, Spawns, ThreadPool};
+pub use thread_pool::{OsThreads, Spawner, Spawns, ThreadPool};

@@ -25,7 +25,7 @@ use thread_pool::Spawner;
 ///     ) -> Result<Seen, Fault> {
 ///         let mut clock = self.clock;
 ///         let until = clock.now().saturating_add(self.millis);
-///         match ctx.sleep_by(&clock.runtime(), &mut clock, until) {
+///         match ctx.wait_by(&clock.runtime(), &mut clock, Some(until), None) {
 ///             Ok(None) => match (
 ///                 self.realm.tree(rt, self.alloc),
 ///                 self.realm.dump(rt, self.alloc),

@@ -1,13 +1,13 @@
 //! A scope that can't be forgotten.
 ghost use Rattle.std.specs.Prelude.{◌≡◌, ◌⊎◌, Err, IfErr, IfOk, IsOk, MatchResult, None};
-ghost use Rattle.balkreyn.specs.{AreGone, ClosesAfter, ClosesBare, ClosesBy, ClosesHere, DoesInRoom, Fitting, ForksJob, FoundUnsettled, IsOpenOf, Joins, JoinsBare, JoinsBy, KeepsThread, ListsBelow, ListsOne, Memory, NotReady};
+ghost use Rattle.balkreyn.specs.{AreGone, ClosesAfter, ClosesBare, ClosesBy, ClosesHere, DoesInRoom, Fitting, ForksJob, FoundUnsettled, IsOpenOf, JoinsBy, KeepsThread, ListsBelow, ListsOne, Memory, NotReady};
 ghost use Rattle.balkreyn.specs.{SeesMore, StaysHere, StaysUnclosed, StopsClosing, history_seen, job_of, next_scope, policy_of, why_alone};
 
 use crate::aliases::CanFork;
 use crate::scoped::close_in_time;
 use job_runner::{Answers, Clock, ForkRefusal, NamedJob, TaskCtx};
 use join_rules::Joiner;
-use realm_lock::{BareOutcome, CloseReport, Joined, RealmName};
+use realm_lock::{CloseReport, JoinAnswer, RealmName, Time};
 use scope_rules::{Catalog, Event, ForkReply, Options, Refusal, ScopeId, Verdict};
 use share_ledger::RealmStep;
 use std::marker::Model;
@@ -95,55 +95,23 @@ impl ScopeGuard {
         ctx.fork_job(rt, self.scope, job)
     }
 
-    /// Joins the scope, as `TaskCtx::join` does (JEP 505, `join`). That it returns is not promised.
-    ///
-    /// # Errors
-    /// Those of `TaskCtx::join`.
-    pub fn join<C: Catalog, S: Spawner<N>, N: RealmName, R: Wait>(
-        &self,
-        rt: &R,
-        ctx: &mut TaskCtx<C, S, N>,
-    ) -> Result<Joined, Refusal>
-        ensures answer { (ctx.new ≡ record ctx.old { token = ctx.new.token }) × Joins ctx.old.token ctx.new.token self.now result }
-        ensures fitting { Fitting C.fitting (history_seen ctx.new.token) }
-        ensures waited { result ≡ Err NotReady → ⊥ }
-    {
-        ctx.join(rt, self.scope)
-    }
-
-    /// Joins the scope and tells its outcome without the lists, as `TaskCtx::join_bare` does. That it
-    /// returns is not promised.
-    ///
-    /// # Errors
-    /// Those of `TaskCtx::join_bare`.
-    pub fn join_bare<C: Catalog, S: Spawner<N>, N: RealmName, R: Wait>(
-        &self,
-        rt: &R,
-        ctx: &mut TaskCtx<C, S, N>,
-    ) -> Result<BareOutcome, Refusal>
-        ensures answer { (ctx.new ≡ record ctx.old { token = ctx.new.token }) × JoinsBare ctx.old.token ctx.new.token self.now result }
-        ensures fitting { Fitting C.fitting (history_seen ctx.new.token) }
-        ensures waited { result ≡ Err NotReady → ⊥ }
-    {
-        ctx.join_bare(rt, self.scope)
-    }
-
-    /// Joins the scope by the clock, as `TaskCtx::join_by` does: deadlines pass while it waits (Trio).
+    /// Joins the scope, as `TaskCtx::join_by` does (JEP 505, `join`): by a clock deadlines pass while it waits (Trio), by
+    /// `Never` they don't. That it returns is not promised.
     ///
     /// # Errors
     /// Those of `TaskCtx::join_by`.
-    pub fn join_by<C: Catalog, S: Spawner<N>, N: RealmName, R: Wait + SystemTime, K: Clock>(
+    pub fn join_by<A: JoinAnswer, C: Catalog, S: Spawner<N>, N: RealmName, R: Wait, T: Time>(
         &self,
         rt: &R,
         ctx: &mut TaskCtx<C, S, N>,
-        clock: &mut K,
-    ) -> Result<Joined, Refusal>
+        time: &mut T,
+    ) -> Result<A, Refusal>
         ensures rest { (ctx.new ≡ record ctx.old { token = ctx.new.token }) × SeesMore ctx.old.token ctx.new.token }
-        ensures answer { JoinsBy K.reads ctx.old.token ctx.new.token clock.old clock.new self.now result }
+        ensures answer { JoinsBy T.reads A.joins ctx.old.token ctx.new.token time.old time.new self.now result }
         ensures fitting { Fitting C.fitting (history_seen ctx.new.token) }
         ensures waited { result ≡ Err NotReady → ⊥ }
     {
-        ctx.join_by(rt, self.scope, clock)
+        ctx.join_by(rt, self.scope, time)
     }
 
     /// Closes the scope, and all that its actor opened later and has not closed, and says how it was

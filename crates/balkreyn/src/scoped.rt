@@ -34,7 +34,7 @@ use thread_pool::Spawner;
 ///         |ctx: &mut TaskCtx<AnyEnd, S, N>, scope: ScopeId| -> Result<Option<i64>, Refusal> {
 ///             fork(rt, ctx, scope, first.shop, first)?;
 ///             fork(rt, ctx, scope, second.shop, second)?;
-///             let joined = ctx.join_by(rt, scope, clock)?;
+///             let joined: Joined = ctx.join_by(rt, scope, clock)?;
 ///             Ok(sum_in(&joined.outcome))
 ///         },
 ///     )

@@ -33,6 +33,18 @@ impl CancelOrder {
         }
     }
 
+    /// Leaves no scopes. It keeps the memory, and takes none.
+    pub(crate) fn clear(&mut self)
+        ensures none { self.new.scopes.items ≡ [] }
+        ensures run { self.new.run ≡ 0 }
+        ensures place { self.new.place ≡ 0 }
+    {
+        self.scopes.clear();
+        self.run = 0;
+        self.place = 0;
+        self.in_order = true;
+    }
+
     /// Makes room for so many scopes in all. Refused if memory is.
     pub(crate) fn make_room(&mut self, all: usize) -> Result<(), AllocError>
         ensures room { OnOk result (all ≤ vec_capacity self.new.scopes) }

@@ -48,6 +48,16 @@ impl Tree {
         }
     }
 
+    /// Leaves no scopes. It keeps the memory, and takes none.
+    pub fn clear(&mut self)
+        ensures { self.new ≡ [] }
+    {
+        self.nodes.clear();
+        self.links.clear();
+        self.cancels.clear();
+        self.listed.clear();
+    }
+
     /// Adds the scope, which has the next number, inside `parent`, or outside all others. If the
     /// parent is cancelled and no shield is in the way, it is cancelled from the start. `opened` is the
     /// place of its opening, which never falls from one call to the next, nor below that of a cancel.

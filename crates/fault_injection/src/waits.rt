@@ -5,7 +5,7 @@ use crate::duties::{Duty, Shared, Worker, fork};
 use crate::roaming::opened;
 use job_runner::{Clock, JobWork, TaskCtx};
 use join_rules::Joiner;
-use realm_lock::RealmName;
+use realm_lock::{Joined, RealmName};
 use scope_rules::{AnyEnd, Options, Refusal, ScopeId};
 use std::rt::Clock as SystemTime;
 use std::sync::{Arc, Wait};
@@ -54,14 +54,14 @@ fn wait<N: RealmName, S: Spawner<N>, R: Wait + SystemTime>(
     throws: &mut Throws,
 ) {
     match throws.below(3) {
-        0 => board.check(is_of_tick(ctx.join_by(rt, scope, clock).err())),
-        1 => match ctx.wait_cancelled_by(rt, clock) {
+        0 => board.check(is_of_tick(ctx.join_by::<Joined, _, _>(rt, scope, clock).err())),
+        1 => match ctx.wait_by(rt, clock, None, None) {
             Ok(mark) => board.check(mark.is_some()),
             Err(refusal) => board.check(is_of_tick(Some(refusal))),
         },
         _ => {
             let until = board.moment().saturating_add(u64::from(throws.below(8)));
-            match ctx.sleep_by(rt, clock, until) {
+            match ctx.wait_by(rt, clock, Some(until), None) {
                 Ok(Some(_)) => {}
                 Ok(None) => board.check(clock.last >= Some(until)),
                 Err(refusal) => board.check(is_of_tick(Some(refusal))),
@@ -99,7 +99,6 @@ pub fn wait_by_a_clock<
         let _forked = fork(rt, ctx, board, scope, Duty::Roams { depth: 1, seed });
     }
     wait(rt, ctx, board, scope, &mut clock, &mut throws);
-    if ctx.close_scope_bare_by(rt, scope, &mut clock).is_err() {
-        board.check(ctx.close_scope_bare(rt, scope).is_ok());
-    }
+    let _waited = ctx.await_close_by(rt, scope, &mut clock);
+    board.check(ctx.close_scope_bare(rt, scope).is_ok());
 }

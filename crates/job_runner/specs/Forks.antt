@@ -1,9 +1,9 @@
 -- What a fork of a job does, and answers.
-use Rattle.std.specs.Prelude.{[], ℕ, ◌++◌, ◌∷◌, ◌≡◌, Err, None, Ok, Result}
+use Rattle.std.specs.Prelude.{ℕ, ◌≡◌, Err, None, Ok, Result}
 use Rattle.scope_rules.specs.declared.types.answers.ForkReply.TheVariants.{Never, Thread}
-use Rattle.job_runner.specs.Words.{Accepted, Added, EndValue, Fork, ForkRefusal, ForkReply, Happened, HasThreadMore, History, IsSameTeam, IsWaiting, LabelValue, NamedValue, OwnerValue, Refusal, Reject, Returns, SeesMore, TableId}
+use Rattle.job_runner.specs.Words.{Accepted, Added, Fork, ForkRefusal, ForkReply, Happened, HasThreadMore, History, IsSameTeam, IsWaiting, LabelValue, NamedValue, OwnerValue, Refusal, Reject, SeesMore, TableId}
 use Rattle.job_runner.specs.Words.{TeamValue, TicketValue, end_in, fork_reply}
-use Rattle.job_runner.specs.{Endings.EndsAsMay, Rooms.DoesInRoom}
+use Rattle.job_runner.specs.Rooms.{DoesInRoom}
 use Rattle.scope_rules.specs.declared.types.refusals.Refusal.TheVariants as refusal
 use Rattle.job_runner.specs.declared.forking.ForkRefusal.TheVariants as refused
 
@@ -48,13 +48,6 @@ ticket_of token s label task = record { table = token.table; limits = token.limi
 abbrev pub KeepsThread : OwnerValue → ℕ → LabelValue → ForkReply → TeamValue → TeamValue → Type 0
 KeepsThread token s label (Thread task) old new = HasThreadMore (ticket_of token s label task) old new
 KeepsThread token s label (Never task) old new = IsSameTeam old new
-
--- what a fork in scope s with this label that was answered so makes of the team if the job ran here: the task's
--- ticket is the last of those that came back, and shows that the job ended as it may
-abbrev pub RanHere : TableId → (EndValue → Type 0) → OwnerValue → ℕ → LabelValue → ForkReply → TeamValue → TeamValue → Type 0
-RanHere name may_end token s label (Thread task) old new =
-    (last : TicketValue) × Returns name (ticket_of token s label task) last × EndsAsMay may_end last × (new.running ≡ old.running) × (new.returned ≡ old.returned ++ last ∷ [])
-RanHere name may_end token s label (Never task) old new = IsSameTeam old new
 
 abbrev pub reply_there : ℕ → History → ForkReply
 reply_there scope h = fork_reply h scope

@@ -1,9 +1,9 @@
 ghost use Rattle.std.specs.Prelude.{◌≡◌, Err, IfErr, MatchResult};
 ghost use Rattle.realm_core.specs.Views.{Joins};
-ghost use Rattle.job_runner.specs.{Fitting, JoinsBare, MarkedViewAnswers, Reads, ViewAnswers, answering, binding_reply, effective, fault_reply, history_seen, result_reply, state, task_check, until_check};
+ghost use Rattle.job_runner.specs.{Fitting, JoinsBy, MarkedViewAnswers, Reads, SeesMore, ViewAnswers, answering, binding_reply, effective, fault_reply, history_seen, result_reply, state, task_check, until_check};
 
 use crate::contexts::TaskCtx;
-use realm_lock::{BareOutcome, Joined, Look, Mark, Realm, RealmName, View};
+use realm_lock::{JoinAnswer, Joined, Look, Mark, Realm, RealmName, Time, View};
 use scope_rules::{Catalog, Effective, Event, Fault, Name, Refusal, ScopeId, State, TaskId, Value};
 use std::sync::Wait;
 use thread_pool::Spawner;
@@ -23,16 +23,21 @@ impl<C: Catalog, S: Spawner<N>, N: RealmName> TaskCtx<C, S, N> {
         self.realm.lent().join(rt, &mut token.held, scope)
     }
 
-    /// Joins the actor's scope as `join` does, and tells its outcome without the lists and without its
-    /// log: in constant time, and without memory. Refused as `Realm::join_bare` is. That it returns is not
-    /// promised.
-    pub fn join_bare<R: Wait>(&mut self, rt: &R, scope: ScopeId) -> Result<BareOutcome, Refusal>
-        ensures answer { (self.new ≡ record self.old { token = self.new.token }) × JoinsBare self.old.token self.new.token scope result }
+    /// Joins the actor's scope as `join` does, by a clock, if one is given (or `Never`), and gives what is asked for: the
+    /// outcome alone (`BareOutcome`) takes no memory. Refused as `Realm::join_by` is.
+    pub fn join_by<A: JoinAnswer, R: Wait, T: Time>(
+        &mut self,
+        rt: &R,
+        scope: ScopeId,
+        time: &mut T,
+    ) -> Result<A, Refusal>
+        ensures rest { (self.new ≡ record self.old { token = self.new.token }) × SeesMore self.old.token self.new.token }
+        ensures answer { JoinsBy T.reads A.joins self.old.token self.new.token time.old time.new scope result }
         ensures fitting { Fitting C.fitting (history_seen self.new.token) }
         ensures waited { result ≡ Err Refusal.NotReady → ⊥ }
     {
         let token = &mut self.token;
-        self.realm.lent().join_bare(rt, &mut token.held, scope)
+        self.realm.lent().join_by(rt, &mut token.held, scope, time)
     }
 
     /// The value of the task, read by the owner of its scope after the join (JEP 505, `Subtask.get`).

@@ -2,11 +2,9 @@ ghost use Rattle.std.specs.Prelude.{◌≡◌, IfSome, IsNone, MatchResult, None
 ghost use Rattle.job_runner.specs.{Agrees, HasCome, HasPassed, MatchOption, SeesMore, Stopped, Waited, history_seen, said_by, shown_in};
 
 use cancel_marks::{Mark, MarkCell, Seat};
-use realm_lock::{ActorToken, BellWait, Realm, RealmName};
+use realm_lock::{ActorToken, BellWait, Realm, RealmName, Time};
 use scope_rules::{Catalog, Refusal};
-use share_ledger::Clock;
 use std::marker::Model;
-use std::rt::Clock as SystemTime;
 use std::sync::Wait;
 
 /// The cell of a scope, and a seat at it. Contracts see what the seat was shown.
@@ -68,23 +66,23 @@ impl CellReader {
     }
 
     /// The same by a clock, until the moment, if one is given, or until the bell has rung.
-    pub(crate) fn wait_by<C: Catalog, N: RealmName, R: Wait + SystemTime, K: Clock>(
+    pub(crate) fn wait_by<C: Catalog, N: RealmName, R: Wait, T: Time>(
         &mut self,
         rt: &R,
         realm: &Realm<C, N>,
         token: &mut ActorToken,
-        clock: &mut K,
+        time: &mut T,
         until: Option<u64>,
         bell: Option<BellWait<'_>>,
     ) -> Result<Option<Mark>, Refusal>
         requires named { token.old.table ≡ N.table }
         ensures token { SeesMore token.old token.new }
-        ensures answer { MatchResult result (λ _. Waited K.reads token.old clock.old token.new clock.new) (Stopped K.reads token.old token.new clock.old clock.new) }
+        ensures answer { MatchResult result (λ _. Waited T.reads token.old time.old token.new time.new) (Stopped T.reads token.old token.new time.old time.new) }
         ensures cell { self.new.cell ≡ self.old.cell }
         ensures mark { MatchOption (shown_in result) ((self.old.known ≡ None) × (self.new.known ≡ None)) (λ mark. (mark.seat ≡ self.new) × (self.new.known ≡ Some (said_by mark)) × Agrees self.old.known (said_by mark)) }
-        ensures slept { result ≡ Ok None → IsNone bell.entry → HasPassed until (K.reading clock.new) }
-        ensures passed_all { result ≡ Ok None → IfSome (K.reading clock.new) (λ now. HasCome (history_seen token.new) now → ⊥) }
+        ensures slept { result ≡ Ok None → IsNone bell.entry → HasPassed until (T.reading time.new) }
+        ensures passed_all { result ≡ Ok None → IfSome (T.reading time.new) (λ now. HasCome (history_seen token.new) now → ⊥) }
     {
-        realm.wait_marked_by(rt, token, &self.cell, &mut self.seat, clock, until, bell)
+        realm.wait_marked_by(rt, token, &self.cell, &mut self.seat, time, until, bell)
     }
 }

@@ -6,7 +6,7 @@ ghost use Rattle.share_ledger.specs.Values.{IsWaiting};
 use crate::common::{finish, fork, open, open_marked, run};
 use crate::waits::pause;
 use crate::waits_by::LockingClock;
-use realm_lock::{ActorToken, Bell, BellWait, MarkCell, Realm, RealmName, Seat, Ticket};
+use realm_lock::{ActorToken, Bell, BellWait, Joined, MarkCell, Realm, RealmName, Seat, Ticket};
 use scope_rules::{AnyEnd, Options, Refusal, ScopeId, Value};
 use share_ledger::Clock;
 use std::alloc::Global;
@@ -66,7 +66,7 @@ fn wait<N: RealmName, R: Wait + SystemTime>(
 {
     match watcher {
         Watcher::Join => {
-            realm.join_by(rt, token, awaited.scope, clock)?;
+            let _joined: Joined = realm.join_by(rt, token, awaited.scope, clock)?;
             Ok(())
         }
         Watcher::Close => realm.await_close_by(rt, token, awaited.scope, clock),
@@ -75,10 +75,10 @@ fn wait<N: RealmName, R: Wait + SystemTime>(
             realm.wait_marked_by(rt, token, &awaited.cell, seat, clock, until, None)?;
             Ok(())
         }
-        Watcher::Sleep => realm.sleep_by(rt, token, clock, OVER),
+        Watcher::Sleep => realm.pause_by(rt, token, clock, Some(OVER), None),
         Watcher::Ring => {
             let bell = &awaited.bell;
-            realm.wait_rung_by(rt, token, clock, BellWait { bell, heard: 0 })
+            realm.pause_by(rt, token, clock, None, Some(BellWait { bell, heard: 0 }))
         }
     }
 }
@@ -171,7 +171,7 @@ fn ends_it<N: RealmName, R: Wait + SystemTime>(
     await_reading(&hands.main);
     let (ticket, mut token) = realm.start(rt, ticket);
     let has_slept = realm
-        .sleep_by(rt, &mut token, &mut Steps { last: None }, 1)
+        .pause_by(rt, &mut token, &mut Steps { last: None }, Some(1), None)
         .is_ok();
     hands.time.store(OVER, Ordering::SeqCst);
     if handing.is_refused {
@@ -194,7 +194,7 @@ fn joins_behind<N: RealmName, R: Wait + SystemTime>(
 {
     await_reading(&hands.first);
     let mut clock = LockingClock::new(rt, realm, &hands.time, &hands.main);
-    match realm.join_by(rt, main, scope, &mut clock) {
+    match realm.join_by::<Joined, _, _>(rt, main, scope, &mut clock) {
         Ok(_joined) => !handing.is_refused,
         Err(refusal) => handing.is_refused && refusal == Refusal::TooMany,
     }

@@ -119,7 +119,9 @@ fn wait<N: RealmName, R: Wait + SystemTime>(
         Waits::Sleep => {
             let readings = AtomicU64::new(0);
             let mut clock = LockingClock::new(rt, realm, time, &readings);
-            realm.sleep_by(rt, token, &mut clock, 60_000).is_ok()
+            realm
+                .pause_by(rt, token, &mut clock, Some(60_000), None)
+                .is_ok()
         }
         Waits::Mark => {
             let (cell, mut seat) = marked;

@@ -1,7 +1,7 @@
 -- What a join by a clock leaves in a request.
 use Rattle.std.specs.Prelude.{◌≡◌, ◌≤◌}
 use Rattle.quote_gateway.specs.{ℕ, Asked, Bool, ClockBack, Err, Event, FindsNone, GatewayFault, HasForked, HasJoined, History, IsLegal, IsOfCall, IsOpenHere, IsRejectedIn, IsSome, IsStepIn}
-use Rattle.quote_gateway.specs.{IsTold, IsTurnedDown, Joined, JoinsBy, JoinsThen, KeepsTasks, LabelValue, Limits, List, MatchResult, Memory, None, Option, OwnerValue, PlanValue, Pulsed, Refusal}
+use Rattle.quote_gateway.specs.{IsTold, IsTurnedDown, Joined, Joins, JoinsBy, JoinsThen, KeepsTasks, LabelValue, Limits, List, MatchResult, Memory, None, Option, OwnerValue, PlanValue, Pulsed, Refusal}
 use Rattle.quote_gateway.specs.{Result, STEP_LOAD, SeesMore, Some, StaysUnclosed, Stopped, StopsClosing, Tick, Waited, WaitsToClose, began, check_of, checks, false, history_of, history_seen}
 use Rattle.quote_gateway.specs.{looked as has_looked, moment, over_load, read, row_check, shapes, step_check, then_check, ticked, true}
 use Rattle.quote_gateway.proofs.Words.{◌∙◌, Ok, ap, arith, inl, inr, ltb-true, nat_lt, refl, subst, sym, waited_sees}
@@ -20,7 +20,7 @@ module _ {K : Type 0} (reads : K → K → ℕ → Type 0) (old : OwnerValue) (s
   waited_keeps there clock (ticked {there = mid} {now = now} so_far reading tick) =
       tokens_on old mid there shapes (waited_sees mid _ so_far) (waited_keeps mid _ so_far) (added mid.limits mid.actor mid.seen there.seen (Asked mid.actor (Tick now)) tick.adds refl)
 
-  then_keeps : (new : OwnerValue) (last : K) (s : ℕ) (result : Result Joined Refusal) → JoinsThen reads old new start last s result → KeepsTasks old new
+  then_keeps : (new : OwnerValue) (last : K) (s : ℕ) (result : Result Joined Refusal) → JoinsThen reads Joins old new start last s result → KeepsTasks old new
   then_keeps new last s result it =
       tokens_on old it.there new shapes (waited_sees it.there last it.waited) (waited_keeps it.there last it.waited) (join_keeps it.there new s result it.joins)
 
@@ -29,12 +29,12 @@ module _ {K : Type 0} (reads : K → K → ℕ → Type 0) (old : OwnerValue) (s
       tokens_on old it.there new shapes (waited_sees it.there it.clock it.waited) (waited_keeps it.there it.clock it.waited)
       (looked it.there.limits it.there.actor it.there.seen new.seen (looked_by it.there new (Asked it.there.actor (Tick it.now)) refusal it.refused.refused))
 
-  pub joined_keeps : (new : OwnerValue) (last : K) (s : ℕ) (result : Result Joined Refusal) → JoinsBy reads old new start last s result → KeepsTasks old new
+  pub joined_keeps : (new : OwnerValue) (last : K) (s : ℕ) (result : Result Joined Refusal) → JoinsBy reads Joins old new start last s result → KeepsTasks old new
   joined_keeps new last s (Ok joined) it = then_keeps new last s (Ok joined) it
   joined_keeps new last s (Err refusal) it = elim it [ inl then ↦ then_keeps new last s (Err refusal) then | inr stop ↦ stop_keeps new last refusal stop ]
 
   -- if it is refused, nothing is found for that cause
-  pub joined_none : (new : OwnerValue) (last : K) (plan : PlanValue) (s : ℕ) (Expired : Type 0) (refusal : Refusal) (why : GatewayFault) → JoinsBy reads old new start last s (Err refusal) → IsOfCall why → (refusal ≡ Memory → why ≡ GatewayFault.Memory) → FindsNone old new plan s Expired why
+  pub joined_none : (new : OwnerValue) (last : K) (plan : PlanValue) (s : ℕ) (Expired : Type 0) (refusal : Refusal) (why : GatewayFault) → JoinsBy reads Joins old new start last s (Err refusal) → IsOfCall why → (refusal ≡ Memory → why ≡ GatewayFault.Memory) → FindsNone old new plan s Expired why
   joined_none new last plan s Expired refusal why it call memory = elim it [
     | inl then ↦
         let begins = begins_going old.limits (shapes old.actor) old.seen then.there.seen (waited_keeps then.there last then.waited) in
@@ -50,7 +50,7 @@ module _ {K : Type 0} (reads : K → K → ℕ → Type 0) (old : OwnerValue) (s
   ]
 
 -- if it joined, the scope is joined
-pub joined_by : {K : Type 0} (reads : K → K → ℕ → Type 0) (old new : OwnerValue) (start last : K) (s : ℕ) (ls : List LabelValue) (ks : List ℕ) (joined : Joined) → JoinsBy reads old new start last s (Ok joined) → HasForked old s ls ks → HasJoined new s ks
+pub joined_by : {K : Type 0} (reads : K → K → ℕ → Type 0) (old new : OwnerValue) (start last : K) (s : ℕ) (ls : List LabelValue) (ks : List ℕ) (joined : Joined) → JoinsBy reads Joins old new start last s (Ok joined) → HasForked old s ls ks → HasJoined new s ks
 joined_by reads old new start last s ls ks joined it was =
     let there = forked_still old it.there s ls ks (waited_sees it.there last it.waited) (waited_keeps reads old start was.here.legal it.there last it.waited) was in
     joined_here it.there new s ls ks joined it.joins there

@@ -74,7 +74,7 @@ fn sleep_late<T: Wait + SystemTime + Copy, S: Spawner<N>, N: RealmName>(
     let Late { until, clock, .. } = late;
     let rt = clock.runtime();
     let mut clock = clock;
-    let _mark = ctx.sleep_by(&rt, &mut clock, until);
+    let _mark = ctx.wait_by(&rt, &mut clock, Some(until), None);
 }
 
 /// The jobs of the plan's offers, in order, of which those are late that are named.

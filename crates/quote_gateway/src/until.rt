@@ -7,7 +7,7 @@ use crate::faults::GatewayFault;
 use crate::requests::{answer_joined, join_and_answer};
 use job_runner::{Clock, TaskCtx, pulse};
 use quote_plan::{Answer, Plan};
-use realm_lock::RealmName;
+use realm_lock::{Joined, RealmName};
 use scope_rules::{Due, Expiry, Options, Refusal, ScopeId, TaskId};
 use std::alloc::Global;
 use std::rt::Clock as SystemTime;
@@ -162,7 +162,7 @@ fn answer_in_time<N: RealmName, S: Spawner<N>, K: Clock, R: Wait + SystemTime>(
     ensures found { Finds ctx.old.token ctx.new.token plan.now scope (HasExpired deadline (K.reading clock.new)) result }
     ensures told { OnOk result (IsTold (history_seen ctx.new.token) (K.reading clock.new)) }
 {
-    let joined = match ctx.join_by(rt, scope, clock) {
+    let joined: Joined = match ctx.join_by(rt, scope, clock) {
         Ok(joined) => joined,
         Err(refusal) => {
             end_jobs(rt, ctx, scope, clock);

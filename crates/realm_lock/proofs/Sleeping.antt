@@ -2,7 +2,7 @@
 use Rattle.std.proofs.Common.{[], ℕ, ◌&&◌, ◌++◌, ◌<◌, ◌==◌, ◌||◌, ◌∙◌, ◌∷◌, ◌≡◌, Bool, Err, IfOk, List, None, Ok, Option, Result, Some, ap, arith, false, if◌then◌else◌, inl, inr, is_ok, is_some, nat_le, nat_lt, not, refl, subst}
 use Rattle.std.proofs.Common.{sym, true}
 use Rattle.scope_rules.specs.declared.types.events.Event.TheVariants.{Tick}
-use Rattle.realm_lock.specs.{AlreadyJoined, Asked, BareOutcome, Checked, Closed, CoreValue, EventReply, FoundUnsettled, Happened, HasCome, History, HoldsUp, IsBegun, IsHeldUp, Join, Joined, Joins, JoinsBare, Limits, Memory}
+use Rattle.realm_lock.specs.{AlreadyJoined, Asked, Checked, Closed, CoreValue, EventReply, FoundUnsettled, Happened, HasCome, History, HoldsUp, IsBegun, IsHeldUp, Join, Joins, Limits, Memory}
 use Rattle.realm_lock.specs.{NoScope, NoTask, NotOwner, NotReady, OwnerValue, Performed, Realm, RealmStep, Refusal, Refused, Retired, Stepped, Words.forking, WrongStage, actor_check, check_of, checks, closing, done, history_of}
 use Rattle.realm_lock.specs.{history_seen, is_cancelled, is_running, joined, known_actor, known_scope, known_task, moment, opening, owns, ready, records, refuse_if, row_check, scope_check, settled, stage, task_check, then_check}
 use Rattle.realm_lock.proofs.Words.{history-push, moment_grows}
@@ -75,19 +75,14 @@ module _ (core after final : CoreValue) (old new : OwnerValue) (s : ℕ) (same :
   busy_by r is stepped by = subst (λ (h : History). settled h s ≡ false) (seen_there stepped) (unready old.limits (history_of new.seen) old.actor s (by.by ∙ ap Err is))
 
   -- what a join leaves that is not ready
-  pub join_busy : (result : Result Joined Refusal) → Stepped core after new (Happened (Join old.actor s)) (is_ok result) → Joins old new s result → result ≡ Err NotReady → settled (history_of final.steps) s ≡ false
-  join_busy (Ok joined) stepped did is = absurd cc
-  join_busy (Err r) stepped did is =
+  pub join_busy : {A : Type 0} (Did : OwnerValue → OwnerValue → ℕ → Result A Refusal → Type 0) (result : Result A Refusal) → ((r : Refusal) → Did old new s (Err r) → Joins old new s (Err r)) → Stepped core after new (Happened (Join old.actor s)) (is_ok result) → Did old new s result → result ≡ Err NotReady → settled (history_of final.steps) s ≡ false
+  join_busy Did (Ok joined) refused stepped did is = absurd cc
+  join_busy Did (Err r) refused stepped did is =
       let named : r ≡ NotReady = cc in
-      elim did.1 [
+      elim (refused r did).1 [
         | inl by ↦ busy_by r named stepped by
         | inr none ↦ let both : Memory ≡ NotReady = sym none.memory ∙ named in absurd cc
       ]
-
-  -- the same if the outcome is told without the lists
-  pub join_bare_busy : (result : Result BareOutcome Refusal) → Stepped core after new (Happened (Join old.actor s)) (is_ok result) → JoinsBare old new s result → result ≡ Err NotReady → settled (history_of final.steps) s ≡ false
-  join_bare_busy (Ok outcome) stepped did is = absurd cc
-  join_bare_busy (Err r) stepped did is = let named : r ≡ NotReady = cc in busy_by r named stepped did.1
 
 -- ---- a close that is held up
 

@@ -1,10 +1,11 @@
 -- What waits by a clock do, put together turn by turn.
 use Rattle.std.proofs.Common.{[], ℕ, ◌++◌, ◌∙◌, ◌∷◌, ◌≡◌, ◌⊎◌, Bool, Err, IfErr, IfOk, List, MatchOption, MatchResult, None, Ok, Option, Result, Some, ap, arith, false, inl, inr, nat_lt, refl, subst, sym, true}
 use Rattle.scope_rules.specs.declared.types.events.Event.TheVariants.{Tick}
-use Rattle.realm_lock.specs.{Asked, Begins, Cancelling, ClosesAfter, CoreValue, EventReply, HasCome, HasLooked, History, IsBegun, Joined, Joins, JoinsBy, JoinsInTime, Limits, Looked, LooksInTime, Memory, NotReady, OwnerValue}
-use Rattle.realm_lock.specs.{PassesDue, PassesTime, Performed, RealmStep, Refusal, STEP_LOAD, SeesMore, StaysUnclosed, Stepped, Stopped, StopsClosing, TickRefused, Ticks, TooMany, TurnRefused, Turns.Turns, Waited, WaitsToClose}
-use Rattle.realm_lock.specs.{began, check_of, checks, done, history_of, history_seen, looked, moment, over_load, read, records, row_check, then_check, ticked}
-use Rattle.realm_lock.proofs.Words.{begun_asked, begun_looked, le-ltb, same_from_push}
+use Rattle.share_ledger.specs.Holders.{Agrees}
+use Rattle.realm_lock.specs.{Asked, Begins, Cancelling, ClosesAfter, CoreValue, EventReply, HasCome, HasLooked, History, IsBegun, Joins, JoinsBy, JoinsInTime, Limits, Looked, Memory, NotReady, OwnerValue, Performed}
+use Rattle.realm_lock.specs.{ReadsAs, RealmStep, Refusal, STEP_LOAD, SeesMore, StaysUnclosed, Stepped, Stopped, StopsClosing, TickRefused, Ticks, TokenOf, TooMany, TakesTurn, TurnRefused, Turned, Waited, WaitsToClose}
+use Rattle.realm_lock.specs.{began, check_of, checks, done, history_of, history_seen, looked, looks, moment, over_load, passes, read, records, row_check, stays, then_check, ticked}
+use Rattle.realm_lock.proofs.Words.{agrees_on, agrees_same, begun_asked, begun_looked, le-ltb, same_from_push}
 use Rattle.share_ledger.specs.declared.steps.Ask.TheVariants as ask
 use Rattle.scope_checks.specs.declared.event_replies.EventReply.TheVariants as told
 
@@ -67,19 +68,6 @@ pub none_of : {A : Type 0} (o : Option A) (P : Type 0) (Q : A → Type 0) → o 
 none_of None P Q is it = it
 none_of (Some a) P Q is it = absurd cc
 
--- a join at once, and one after a tick
-pub first_in : (old new : OwnerValue) (s now : ℕ) (result : Result Joined Refusal) → Joins old new s result → JoinsInTime old new s now result
-first_in old new s now (Ok joined) it = inl it
-first_in old new s now (Err refusal) it = inl it
-
-pub again_in : (old there new : OwnerValue) (s now : ℕ) (result : Result Joined Refusal) → Turns old there now → Joins there new s result → JoinsInTime old new s now result
-again_in old there new s now (Ok joined) turn it = inr (record { there = there; turns = turn; joins = it })
-again_in old there new s now (Err refusal) turn it = inr (inl (record { there = there; turns = turn; joins = it }))
-
--- a refused join looked
-pub join_looked : (old new : OwnerValue) (s : ℕ) (r : Refusal) → Joins old new s (Err r) → Looked old new
-join_looked old new s r it = (it.0, elim it.1 [ inl by ↦ by.looks | inr none ↦ none.looks ])
-
 module _ {K : Type 0} (reads : K → K → ℕ → Type 0) (old : OwnerValue) where
   -- a close that began stops at a tick that was refused
   pub stops : (begun new : OwnerValue) (from last : K) (s : ℕ) (how : Cancelling) (result : Result (Unit {0}) Refusal) → SeesMore old begun → Begins old begun s (Ok how) → IsBegun (history_seen new) begun.actor s → MatchResult result (λ _. Waited reads begun from new last) (Stopped reads begun new from last) → IfErr result (StopsClosing reads old new from last s)
@@ -98,52 +86,64 @@ module _ {K : Type 0} (reads : K → K → ℕ → Type 0) (old : OwnerValue) wh
   waits begun new from last s how (Ok done) same begins still it = record { begun = begun; how = how; same = same; begins = begins; waited = it }
   waits begun new from last s how (Err refusal) same begins still it = inr (stops begun new from last s how (Err refusal) same begins still it)
 
+-- a refused join looked
+pub join_looked : (old new : OwnerValue) (s : ℕ) (r : Refusal) → Joins old new s (Err r) → Looked old new
+join_looked old new s r it = (it.0, elim it.1 [ inl by ↦ by.looks | inr none ↦ none.looks ])
+
+-- a join in a hold that took a turn before
+pub in_time : {A : Type 0} (Did : OwnerValue → OwnerValue → ℕ → Result A Refusal → Type 0) (now : Option ℕ) (old there new : OwnerValue) (s : ℕ) (result : Result A Refusal) → TakesTurn now old there → Did there new s result → JoinsInTime Did now old new s result
+in_time Did now old there new s (Ok joined) turns it = record { there = there; turns = turns; joins = it }
+in_time Did now old there new s (Err refusal) turns it = inl (record { there = there; turns = turns; joins = it })
+
+-- a reading of that moment
+read_so : {K : Type 0} (reads : K → K → ℕ → Type 0) (clock next : K) (now : Option ℕ) (m : ℕ) → now ≡ Some m → ReadsAs reads clock next now → reads clock next m
+read_so reads clock next now m is reading = subst (ReadsAs reads clock next) is reading
+
 module _ {K : Type 0} {reads : K → K → ℕ → Type 0} {old : OwnerValue} {start : K} where
-  -- a turn: after a reading it looked, or ticked
-  pub turned : (there new : OwnerValue) (clock next : K) (now : ℕ) → Waited reads old start there clock → reads clock next now → Looked there new ⊎ Ticks there new now → Waited reads old start new next
-  turned there new clock next now so_far reading (inl look) = looked (read so_far reading) look
-  turned there new clock next now so_far reading (inr tick) = ticked so_far reading tick
+  has_read : (there : OwnerValue) (clock next : K) (now : Option ℕ) → Waited reads old start there clock → ReadsAs reads clock next now → Waited reads old start there next
+  has_read there clock next None so_far same = subst (Waited reads old start there) (sym same) so_far
+  has_read there clock next (Some m) so_far reading = read so_far reading
 
-  -- a hold after a reading: it ticked, or looked
-  pub passes_in : (there new : OwnerValue) (clock next : K) (now : ℕ) (ticks : Bool) → Waited reads old start there clock → reads clock next now → PassesDue there new now ticks → Waited reads old start new next
-  passes_in there new clock next now true so_far reading tick = ticked so_far reading tick
-  passes_in there new clock next now false so_far reading look = looked (read so_far reading) look
+  -- a hold behind a reading: that is still to come, if it didn't tick; and it has come
+  turned_in : (now : Option ℕ) (there new : OwnerValue) (clock next : K) (ticks : Bool) → Waited reads old start there clock → ReadsAs reads clock next now → Turned now there new ticks → (ticks ≡ false → Waited reads old start new clock) × Waited reads old start new next
+  turned_in now there new clock next ticks so_far reading stays = (λ none. so_far, has_read there clock next now so_far reading)
+  turned_in now there new clock next ticks so_far reading (looks turned look) =
+      let it = turned_in now there _ clock next ticks so_far reading turned in
+      (λ none. looked (it.0 none) look, looked it.1 look)
+  turned_in now there new clock next ticks so_far reading (passes {moment = m} turned is tick) =
+      let it = turned_in now there _ clock next false so_far reading turned in
+      (λ none. absurd cc, ticked (it.0 refl) (read_so reads clock next now m is reading) tick)
 
-  -- it looked, and then ticked
-  turned_in : (there new : OwnerValue) (clock next : K) (now : ℕ) → Waited reads old start there clock → reads clock next now → Turns there new now → Waited reads old start new next
-  turned_in there new clock next now so_far reading turn = ticked (looked so_far turn.looks) reading turn.ticks
-
-  -- it looked, once or twice
-  pub looked_in : (there new : OwnerValue) (clock next : K) (now : ℕ) → Waited reads old start there clock → reads clock next now → LooksInTime there new now → Waited reads old start new next
-  looked_in there new clock next now so_far reading (inl look) = looked (read so_far reading) look
-  looked_in there new clock next now so_far reading (inr again) = looked (turned_in there again.there clock next now so_far reading again.turns) again.looks
+  -- the same, if it is not said whether it ticked
+  pub turns_in : (now : Option ℕ) (there new : OwnerValue) (clock next : K) → Waited reads old start there clock → ReadsAs reads clock next now → TakesTurn now there new → Waited reads old start new next
+  turns_in now there new clock next so_far reading turns = (turned_in now there new clock next turns.0 so_far reading turns.1).1
 
   -- the tick was refused
-  pub stopped_in : (there new : OwnerValue) (clock next : K) (now : ℕ) (refusal : Refusal) → Waited reads old start there clock → reads clock next now → TurnRefused there new now refusal → Stopped reads old new start next refusal
-  stopped_in there new clock next now refusal so_far reading it = record { there = it.there; clock = clock; waited = looked so_far it.looks; now = now; read = reading; refused = it.refused }
+  pub stopped_in : (now : Option ℕ) (there new : OwnerValue) (clock next : K) (refusal : Refusal) → Waited reads old start there clock → ReadsAs reads clock next now → TurnRefused now there new refusal → Stopped reads old new start next refusal
+  stopped_in now there new clock next refusal so_far reading it = record {
+    there = it.there;
+    clock = clock;
+    waited = (turned_in now there it.there clock next false so_far reading it.turned).0 refl;
+    now = it.moment;
+    read = read_so reads clock next now it.moment it.read reading;
+    refused = it.refused;
+  }
 
-  -- a join that was answered
-  pub joined_in : (there new : OwnerValue) (clock next : K) (s now : ℕ) (result : Result Joined Refusal) → Waited reads old start there clock → reads clock next now → JoinsInTime there new s now result → JoinsBy reads old new start next s result
-  joined_in there new clock next s now (Ok joined) so_far reading (inl joins) = record { there = there; waited = read so_far reading; joins = joins }
-  joined_in there new clock next s now (Ok joined) so_far reading (inr again) = record { there = again.there; waited = turned_in there again.there clock next now so_far reading again.turns; joins = again.joins }
-  joined_in there new clock next s now (Err refusal) so_far reading (inl joins) = inl (record { there = there; waited = read so_far reading; joins = joins })
-  joined_in there new clock next s now (Err refusal) so_far reading (inr (inl again)) = inl (record { there = again.there; waited = turned_in there again.there clock next now so_far reading again.turns; joins = again.joins })
-  joined_in there new clock next s now (Err refusal) so_far reading (inr (inr it)) = inr (stopped_in there new clock next now refusal so_far reading it)
+  module _ {A : Type 0} (Did : OwnerValue → OwnerValue → ℕ → Result A Refusal → Type 0) (there new : OwnerValue) (clock next : K) (s : ℕ) (now : Option ℕ) (so_far : Waited reads old start there clock) (reading : ReadsAs reads clock next now) where
+    -- a join that was answered
+    pub joined_in : (result : Result A Refusal) → JoinsInTime Did now there new s result → JoinsBy reads Did old new start next s result
+    joined_in (Ok joined) it = record { there = it.there; waited = turns_in now there it.there clock next so_far reading it.turns; joins = it.joins }
+    joined_in (Err refusal) (inl it) = inl (record { there = it.there; waited = turns_in now there it.there clock next so_far reading it.turns; joins = it.joins })
+    joined_in (Err refusal) (inr it) = inr (stopped_in now there new clock next refusal so_far reading it)
 
-  -- and one that is not ready
-  pub unready_in : (there new : OwnerValue) (clock next : K) (s now : ℕ) (r : Refusal) → r ≡ NotReady → Waited reads old start there clock → reads clock next now → JoinsInTime there new s now (Err r) → Waited reads old start new next
-  unready_in there new clock next s now r is so_far reading (inl joins) = looked (read so_far reading) (join_looked there new s r joins)
-  unready_in there new clock next s now r is so_far reading (inr (inl again)) = looked (turned_in there again.there clock next now so_far reading again.turns) (join_looked again.there new s r again.joins)
-  unready_in there new clock next s now r is so_far reading (inr (inr it)) =
-      absurd (elim it.refused.why [
-        | inl full ↦ let both : TooMany ≡ NotReady = sym full ∙ is in absurd cc
-        | inr none ↦ let both : Memory ≡ NotReady = sym none ∙ is in absurd cc
-      ])
-
-  -- time that was passed, whichever way
-  pub passed_in : (there new : OwnerValue) (clock next : K) (now : ℕ) → Waited reads old start there clock → reads clock next now → PassesTime there new now → Waited reads old start new next
-  passed_in there new clock next now so_far reading (inl same) = subst (λ (t : OwnerValue). Waited reads old start t next) (sym same) (read so_far reading)
-  passed_in there new clock next now so_far reading (inr passes) = turned there new clock next now so_far reading passes
+    -- and one that is not ready
+    pub unready_in : (r : Refusal) → r ≡ NotReady → ((mid : OwnerValue) → Did mid new s (Err r) → Joins mid new s (Err r)) → JoinsInTime Did now there new s (Err r) → Waited reads old start new next
+    unready_in r is refused (inl it) = looked (turns_in now there it.there clock next so_far reading it.turns) (join_looked it.there new s r (refused it.there it.joins))
+    unready_in r is refused (inr it) =
+        absurd (elim it.refused.why [
+          | inl full ↦ let both : TooMany ≡ NotReady = sym full ∙ is in absurd cc
+          | inr none ↦ let both : Memory ≡ NotReady = sym none ∙ is in absurd cc
+        ])
 
   -- what the close did, or was refused for, that came then
   pub ok_after : {A E : Type 0} (P : A → OwnerValue → Type 0) (there : OwnerValue) (last : K) (s : ℕ) (result : Result A E) → WaitsToClose reads old there start last s → IfOk result (λ a. P a there) → IfOk result (λ a. ClosesAfter reads old start last s (P a))
@@ -160,3 +160,21 @@ module _ {K : Type 0} {reads : K → K → ℕ → Type 0} {old : OwnerValue} {s
   waited_sees there clock (looked so_far look) = look.0 ∙ ap (λ (t : OwnerValue). record t { seen = there.seen }) (waited_sees _ _ so_far)
   waited_sees there clock (read so_far reading) = waited_sees _ _ so_far
   waited_sees there clock (ticked so_far reading tick) = tick.same ∙ ap (λ (t : OwnerValue). record t { seen = there.seen }) (waited_sees _ _ so_far)
+
+-- ---- waits that read nothing
+
+-- it looked, and that is all
+waited_never : {K : Type 0} (reads : K → K → ℕ → Type 0) (old : OwnerValue) (start : K) (none : (a b : K) (n : ℕ) → reads a b n → ⊥) (there : OwnerValue) (clock : K) → Waited reads old start there clock → Agrees (TokenOf old.actor) old.seen there.seen
+waited_never reads old start none there clock began = agrees_same (TokenOf old.actor) old.seen
+waited_never reads old start none there clock (looked {there = mid} so_far look) =
+    let same = ap (λ (t : OwnerValue). t.actor) (waited_sees mid clock so_far) in
+    agrees_on (TokenOf old.actor) old.seen mid.seen there.seen (waited_never reads old start none mid clock so_far) (subst (λ (a : ℕ). Agrees (TokenOf a) mid.seen there.seen) same look.1.agrees)
+waited_never reads old start none there clock (read so_far reading) = absurd (none _ _ _ reading)
+waited_never reads old start none there clock (ticked so_far reading tick) = absurd (none _ _ _ reading)
+
+-- so a join by no clock is one
+pub joins_never : {K A : Type 0} (reads : K → K → ℕ → Type 0) (none : (a b : K) (n : ℕ) → reads a b n → ⊥) (Did : OwnerValue → OwnerValue → ℕ → Result A Refusal → Type 0) (old new : OwnerValue) (start last : K) (s : ℕ) (result : Result A Refusal)
+    → ((now : OwnerValue) → SeesMore old now → Agrees (TokenOf old.actor) old.seen now.seen → Did now new s result → Did old new s result) → JoinsBy reads Did old new start last s result → Did old new s result
+joins_never reads none Did old new start last s (Ok joined) later it = later it.there (waited_sees it.there last it.waited) (waited_never reads old start none it.there last it.waited) it.joins
+joins_never reads none Did old new start last s (Err refusal) later (inl it) = later it.there (waited_sees it.there last it.waited) (waited_never reads old start none it.there last it.waited) it.joins
+joins_never reads none Did old new start last s (Err refusal) later (inr it) = absurd (none _ _ _ it.read)

@@ -6,7 +6,7 @@ pub use Rattle.std.proofs.{lemmas.List.Elements.Contains-append_cases, lemmas.Li
 pub use Rattle.std.proofs.{lemmas.List.Folds.Any-from_list_any, lemmas.List.Kept.AllPairs-filter, lemmas.Map.Made.IsDistinct-from_AllPairs, lemmas.Map.Steps.length-le_from_distinct_below, lemmas.Option.get_or_from_slice_get}
 pub use Rattle.std.proofs.{lemmas.Option.same_Some, lemmas.Option.slice_get-get_or, lemmas.Option.slice_get_read, lemmas.Option.slice_get_within}
 pub use Rattle.cancel_tree.proofs.OrderLaws.{order_unique}
-pub use Rattle.realm_core.proofs.{Joining.agrees_on, Joining.joins_bare_later, Joining.joins_later, Kept.begun_asked, Kept.begun_looked, Others.last_passes, ToldCalls.open_told}
+pub use Rattle.realm_core.proofs.{Joining.agrees_on, Joining.agrees_same, Joining.joins_later, Kept.begun_asked, Kept.begun_looked, Others.last_passes, ToldCalls.open_told}
 pub use Rattle.scope_rules.proofs.{ChainsGrow.cancel_new, Earlier.opening_shown, Earlier.opening_within, Growing.opening_stays, Innermosts.opened_after, OneEventMore.opening_split, Owing.count_push, Staying.cancel_opened}
 pub use Rattle.scope_rules.proofs.{Staying.cancel_stays, Staying.cancel_within_history, Timed.moment_grows}
 pub use Rattle.share_ledger.proofs.Histories.{beginning_legal, history-push, legal_history}

@@ -1,45 +1,36 @@
--- What one hold of a wait by a clock does, which has read `now`.
-use Rattle.std.specs.Prelude.{ℕ, ◌≡◌, ◌⊎◌, Bool, Err, Ok, Result, false, true}
-use Rattle.realm_lock.specs.Words.{Joined, Joins, Looked, OwnerValue, Refusal}
-use Rattle.realm_lock.specs.Waits.{TickRefused, Ticks}
+-- What one hold of a wait does, for which `now` was read, if it waits by a clock.
+use Rattle.std.specs.Prelude.{ℕ, ◌≡◌, ◌⊎◌, Bool, Err, IfSome, Ok, Option, Result, Some, false, true}
+use Rattle.realm_lock.specs.Words.{History, Looked, OwnerValue, Refusal}
+use Rattle.realm_lock.specs.Waits.{HasCome, TickRefused, Ticks}
 
--- whether it ticked; else it looked
-abbrev pub PassesDue : OwnerValue → OwnerValue → ℕ → Bool → Type 0
-PassesDue old new now true = Ticks old new now
-PassesDue old new now false = Looked old new
+-- no deadline has come by what was read that isn't passed
+abbrev pub IsPassed : History → Option ℕ → Type 0
+IsPassed h now = IfSome now (λ moment. HasCome h moment → ⊥)
 
--- it did nothing, looked, or ticked
-abbrev pub PassesTime : OwnerValue → OwnerValue → ℕ → Type 0
-PassesTime old new now = (new ≡ old) ⊎ (Looked old new ⊎ Ticks old new now)
+-- it looked, and ticked at most once, to what was read: whether it did
+pub data Turned (now : Option ℕ) (old : OwnerValue) : OwnerValue → Bool → Type 0 where
+  stays : Turned now old old false
+  looks : {there new : OwnerValue} {ticks : Bool} → Turned now old there ticks → Looked there new → Turned now old new ticks
+  passes : {there new : OwnerValue} {moment : ℕ} → Turned now old there false → now ≡ Some moment → Ticks there new moment → Turned now old new true
 
--- it looked, and then ticked
-pub record Turns (old new : OwnerValue) (now : ℕ) : Type 0 where
+abbrev pub TakesTurn : Option ℕ → OwnerValue → OwnerValue → Type 0
+TakesTurn now old new = (ticks : Bool) × Turned now old new ticks
+
+-- its tick was refused
+pub record TurnRefused (now : Option ℕ) (old new : OwnerValue) (refusal : Refusal) : Type 0 where
   pub there : OwnerValue
-  pub looks : Looked old there
-  pub ticks : Ticks there new now
+  pub moment : ℕ
+  pub read : now ≡ Some moment
+  pub turned : Turned now old there false
+  pub refused : TickRefused there new moment refusal
 
--- it looked, and the tick was refused
-pub record TurnRefused (old new : OwnerValue) (now : ℕ) (refusal : Refusal) : Type 0 where
+-- it turned, and then did what a join of scope s does
+pub record JoinsInTurn {A : Type 0} (Did : OwnerValue → OwnerValue → ℕ → Result A Refusal → Type 0) (now : Option ℕ) (old new : OwnerValue) (s : ℕ) (result : Result A Refusal) : Type 0 where
   pub there : OwnerValue
-  pub looks : Looked old there
-  pub refused : TickRefused there new now refusal
+  pub turns : TakesTurn now old there
+  pub joins : Did there new s result
 
--- it looked; or it looked, ticked, and looked again
-pub record LooksAgain (old new : OwnerValue) (now : ℕ) : Type 0 where
-  pub there : OwnerValue
-  pub turns : Turns old there now
-  pub looks : Looked there new
-
-abbrev pub LooksInTime : OwnerValue → OwnerValue → ℕ → Type 0
-LooksInTime old new now = Looked old new ⊎ LooksAgain old new now
-
--- it looked and ticked, and then did what a join of scope s does
-pub record JoinsAgain (old new : OwnerValue) (s now : ℕ) (result : Result Joined Refusal) : Type 0 where
-  pub there : OwnerValue
-  pub turns : Turns old there now
-  pub joins : Joins there new s result
-
--- a join of scope s: at once, or after a tick; or the tick was refused
-abbrev pub JoinsInTime : OwnerValue → OwnerValue → ℕ → ℕ → Result Joined Refusal → Type 0
-JoinsInTime old new s now (Ok joined) = Joins old new s (Ok joined) ⊎ JoinsAgain old new s now (Ok joined)
-JoinsInTime old new s now (Err refusal) = Joins old new s (Err refusal) ⊎ (JoinsAgain old new s now (Err refusal) ⊎ TurnRefused old new now refusal)
+-- so a join of scope s did; or its tick was refused
+abbrev pub JoinsInTime : {A : Type 0} → (OwnerValue → OwnerValue → ℕ → Result A Refusal → Type 0) → Option ℕ → OwnerValue → OwnerValue → ℕ → Result A Refusal → Type 0
+JoinsInTime Did now old new s (Ok joined) = JoinsInTurn Did now old new s (Ok joined)
+JoinsInTime Did now old new s (Err refusal) = JoinsInTurn Did now old new s (Err refusal) ⊎ TurnRefused now old new refusal

@@ -1,8 +1,8 @@
--- What waits by a clock do. The clock is read, and the token looks, or ticks to what was read, once a
+-- What waits do. The clock is read, if there is one, and the token looks, or ticks to what was read, once a
 -- deadline has come by then.
 use Rattle.std.specs.Prelude.{ℕ, ◌≡◌, ◌≤◌, ◌⊎◌, Err, None, Ok, Option, Result, Some}
 use Rattle.share_ledger.specs.declared.steps.Ask.TheVariants.{Tick}
-use Rattle.realm_lock.specs.Words.{Added, Asked, Begins, Cancelling, History, IsBegun, IsNextDeadline, Joined, Joins, Looked, Memory, OutOfMemory, OwnerValue, Refusal, Refused, SeesMore, TooMany, history_of, history_seen}
+use Rattle.realm_lock.specs.Words.{Added, Asked, Begins, Cancelling, History, IsBegun, IsNextDeadline, Looked, MatchOption, Memory, OutOfMemory, OwnerValue, Refusal, Refused, SeesMore, TooMany, history_of, history_seen}
 
 -- the deadline that comes next after h has come by the moment
 pub record HasCome (h : History) (now : ℕ) : Type 0 where
@@ -23,6 +23,10 @@ pub record TickRefused (old new : OwnerValue) (now : ℕ) (refusal : Refusal) : 
   pub refused : Refused old new (Asked old.actor (Tick now)) refusal ⊎ OutOfMemory old new (Asked old.actor (Tick now)) refusal
   pub why : (refusal ≡ TooMany) ⊎ (refusal ≡ Memory)
 
+-- what was read, if there is a clock; else that stays as it was
+abbrev pub ReadsAs : {K : Type 0} → (K → K → ℕ → Type 0) → K → K → Option ℕ → Type 0
+ReadsAs reads old new now = MatchOption now (new ≡ old) (reads old new)
+
 -- what was done with token and clock: nothing yet; then it looked, or the clock was read, or it was read and
 -- the token ticked to that
 pub data Waited {K : Type 0} (reads : K → K → ℕ → Type 0) (old : OwnerValue) (start : K) : OwnerValue → K → Type 0 where
@@ -42,16 +46,16 @@ pub record Stopped {K : Type 0} (reads : K → K → ℕ → Type 0) (old new : 
 
 -- ---- joins
 
--- it waited, and then did what a join of scope s does
-pub record JoinsThen {K : Type 0} (reads : K → K → ℕ → Type 0) (old new : OwnerValue) (start last : K) (s : ℕ) (result : Result Joined Refusal) : Type 0 where
+-- it waited, and then did what such a join of scope s does
+pub record JoinsThen {K A : Type 0} (reads : K → K → ℕ → Type 0) (Did : OwnerValue → OwnerValue → ℕ → Result A Refusal → Type 0) (old new : OwnerValue) (start last : K) (s : ℕ) (result : Result A Refusal) : Type 0 where
   pub there : OwnerValue
   pub waited : Waited reads old start there last
-  pub joins : Joins there new s result
+  pub joins : Did there new s result
 
 -- a join by a clock of scope s: such a one, or a tick was refused
-abbrev pub JoinsBy : {K : Type 0} → (K → K → ℕ → Type 0) → OwnerValue → OwnerValue → K → K → ℕ → Result Joined Refusal → Type 0
-JoinsBy reads old new start last s (Ok joined) = JoinsThen reads old new start last s (Ok joined)
-JoinsBy reads old new start last s (Err refusal) = JoinsThen reads old new start last s (Err refusal) ⊎ Stopped reads old new start last refusal
+abbrev pub JoinsBy : {K A : Type 0} → (K → K → ℕ → Type 0) → (OwnerValue → OwnerValue → ℕ → Result A Refusal → Type 0) → OwnerValue → OwnerValue → K → K → ℕ → Result A Refusal → Type 0
+JoinsBy reads Did old new start last s (Ok joined) = JoinsThen reads Did old new start last s (Ok joined)
+JoinsBy reads Did old new start last s (Err refusal) = JoinsThen reads Did old new start last s (Err refusal) ⊎ Stopped reads old new start last refusal
 
 -- ---- closes
 

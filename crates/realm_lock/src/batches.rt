@@ -38,7 +38,7 @@ impl<C: Catalog, N: RealmName> Realm<C, N> {
         if forked.reserve(labels.len()).is_err() {
             return Err((Refusal::Memory, forked));
         }
-        let mut locked = self.shared.locked.lock(rt);
+        let mut locked = self.shared.lock(rt);
         match locked.fork_all(token, scope, labels, &mut forked) {
             Ok(()) => Ok(forked),
             Err(refusal) => Err((refusal, forked)),

@@ -32,7 +32,7 @@ impl<C: Catalog, N: RealmName> Realm<C, N> {
         ensures ticket { GivesTicket token.new scope label result }
         ensures fitting { Fitting C.fitting (history_seen token.new) }
     {
-        let mut locked = self.shared.locked.lock(rt);
+        let mut locked = self.shared.lock(rt);
         locked.fork(token, scope, label)
     }
 

@@ -20,12 +20,15 @@ mod sleeps;
 mod task_calls;
 mod timed;
 mod timed_waiters;
+mod times;
 mod views;
 
 pub use cancel_marks::{Bell, Mark, MarkCell, Seat};
+pub use joins::JoinAnswer;
 pub use looks::Look;
 pub use realm::Realm;
 pub use realm_core::{BareOutcome, CloseReport, Forked, Joined, RealmName, View};
 pub use realm_state::RealmState;
 pub use share_ledger::{OwnerShare as ActorToken, Seed, Ticket};
 pub use timed_waiters::BellWait;
+pub use times::{Never, Time};

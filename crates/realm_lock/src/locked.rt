@@ -1,16 +1,16 @@
 ghost use Rattle.std.specs.Prelude.{[], ◌<◌, ◌≡◌, ◌≤◌, ◌⊎◌, Err, IfErr, IfOk, IsOk, MatchResult, None, Ok, OnSome, Some, false, is_ok, length, true, vec_capacity};
-ghost use Rattle.realm_lock.specs.{Added, All, Begins, DoesOrMemory, Finishes, Fitting, ForksAll, ForksSome, FoundUnsettled, GivesCell, GivesTicket, IsBegun, IsHeldUp, IsNextDeadline, IsOpenOf, IsRunning, IsWaiting, Joins};
-ghost use Rattle.realm_lock.specs.{JoinsBare, Looked, MatchOption, MayEnd, MayFinish, MayReport, Memory, NoDeadlineComes, NotReady, Options, Performed, Policy, Records, SeesMore, Shown, Stepped, TicketAdded, TicketValue, base_of};
+ghost use Rattle.realm_lock.specs.{Added, All, Begins, DoesOrMemory, Finishes, Fitting, ForksAll, ForksSome, FoundUnsettled, GivesCell, GivesTicket, IsBegun, IsHeldUp, IsNextDeadline, IsOpenOf, IsRunning, IsWaiting};
+ghost use Rattle.realm_lock.specs.{Looked, MatchOption, MayEnd, MayFinish, MayReport, Memory, NoDeadlineComes, NotReady, Options, Performed, Policy, Records, SeesMore, Shown, Stepped, TicketAdded, TicketValue, base_of};
 ghost use Rattle.realm_lock.specs.{fork_reply, given_in, history_of, history_seen, innermost, is_open, is_recorded_by, next_scope, policy_of, refusal_of, scope_alone, scope_check, settled, ticket_aside};
 
+use crate::joins::JoinAnswer;
 use crate::lookouts::Until;
 use crate::setters::CancelSetters;
 use crate::timed_waiters::{CalledWaiter, Noted, OwedWatch, TimedWaiters, WaitTarget};
 use cancel_marks::{Bell, MarkCell};
 use join_rules::Joiner;
 use realm_core::{
-    BareOutcome, CloseReport, Forked, Joined, RealmCore, RealmName, begin, end_if_settled,
-    report_if_settled, unsettled,
+    CloseReport, Forked, RealmCore, RealmName, begin, end_if_settled, report_if_settled, unsettled,
 };
 use scope_checks::checks::scope_check;
 use scope_checks::{EventReply, Readings, queries, table};
@@ -21,6 +21,20 @@ use scope_rules::{
 use share_ledger::{OwnerShare, RealmStep, Seed, Ticket};
 use std::alloc::Global;
 use std::marker::Model;
+
+/// The wake of those who sleep at a cell, which is due once the lock is free: woken under it they would sleep for it, and
+/// all others with them. It can't be dropped: who has it wakes them.
+pub(crate) struct OwedWake {
+    cell: MarkCell,
+}
+
+impl OwedWake {
+    /// Wakes them.
+    pub(crate) fn wake(self) {
+        let OwedWake { cell } = self;
+        cell.wakes().wake();
+    }
+}
 
 /// What lies under a realm's lock: the core, the setters of its scopes' cells, and who sleeps by a clock.
 /// Between calls there is
@@ -169,34 +183,20 @@ impl<C: Catalog, N: RealmName> LockedRealm<C, N> {
 
     /// Joins a scope, if it may be joined already.
     #[tactic(auto, using(crate::proofs::Behind::behind_stepped))]
-    pub(crate) fn join(&mut self, token: &mut OwnerShare, scope: ScopeId) -> Result<Joined, Refusal>
+    pub(crate) fn join<A: JoinAnswer>(
+        &mut self,
+        token: &mut OwnerShare,
+        scope: ScopeId,
+    ) -> Result<A, Refusal>
         requires named { token.old.table ≡ N.table }
-        ensures answer { Joins token.old token.new scope result }
+        ensures token { SeesMore token.old token.new }
+        ensures answer { A.joins token.old token.new scope result }
         ensures steps { Stepped self.old self.new token.new (RealmStep.Happened (Event.Join token.old.actor scope)) (is_ok result) }
         ensures busy { result ≡ Err NotReady → settled (history_of self.new.steps) scope ≡ false }
         ensures fitting { Fitting C.fitting (history_seen token.new) }
     {
         let _legal = self.core.limits();
-        let result = self.core.join(token, scope);
-        self.setters.catch_up(&mut self.core);
-        let _fitting = self.core.limits();
-        result
-    }
-
-    /// The same, if the outcome is told without the lists.
-    #[tactic(auto, using(crate::proofs::Behind::behind_stepped))]
-    pub(crate) fn join_bare(
-        &mut self,
-        token: &mut OwnerShare,
-        scope: ScopeId,
-    ) -> Result<BareOutcome, Refusal>
-        requires named { token.old.table ≡ N.table }
-        ensures answer { JoinsBare token.old token.new scope result }
-        ensures busy { result ≡ Err NotReady → settled (history_of self.new.steps) scope ≡ false }
-        ensures fitting { Fitting C.fitting (history_seen token.new) }
-    {
-        let _legal = self.core.limits();
-        let result = self.core.join_bare(token, scope);
+        let result = A::join_in(&mut self.core, token, scope);
         self.setters.catch_up(&mut self.core);
         let _fitting = self.core.limits();
         result
@@ -286,31 +286,45 @@ impl<C: Catalog, N: RealmName> LockedRealm<C, N> {
         token
     }
 
-    /// Records the end of the ticket's task.
+    /// Records the end of the ticket's task, and gives the wake of those who wait for its scope, if it was the last.
     #[tactic(auto, using(crate::proofs::Behind::behind_stepped))]
     pub(crate) fn finish(
         &mut self,
         ticket: &mut Ticket,
         token: OwnerShare,
         end: End,
-    ) -> Result<(), (Refusal, OwnerShare)>
+    ) -> (Result<(), (Refusal, OwnerShare)>, Option<OwedWake>)
         requires token { token.table ≡ N.table }
         requires task { MayFinish N.table C.fitting ticket.old token end }
-        ensures answer { Finishes ticket.old ticket.new token end result }
-        ensures sure { innermost (history_seen token) token.actor ≡ None → IsOk result }
+        ensures answer { Finishes ticket.old ticket.new token end result.0 }
+        ensures sure { innermost (history_seen token) token.actor ≡ None → IsOk result.0 }
         ensures fitting { Fitting C.fitting (history_of ticket.new.seen) }
     {
         let _legal = self.core.limits();
         let result = self.core.finish(ticket, token, end);
         self.setters.catch_up(&mut self.core);
         let _fitting = self.core.limits();
-        self.wake_if_settled(ticket.scope());
-        result
+        (result, self.owed_wake(ticket.scope()))
     }
 }
 
 /// Who sleeps, and whom an event wakes. A mark wakes when it is set.
 impl<C: Catalog, N: RealmName> LockedRealm<C, N> {
+    /// The wake of those who wait for the scope, if no task of it waits or runs any longer. If its cell isn't had, since
+    /// std's count of holders is full, they are woken here.
+    fn owed_wake(&self, scope: ScopeId) -> Option<OwedWake> {
+        if !self.core.realm().settled(scope) {
+            return None;
+        }
+        match self.cell(scope) {
+            Ok(cell) => Some(OwedWake { cell }),
+            Err(_) => {
+                self.wake_if_settled(scope);
+                None
+            }
+        }
+    }
+
     /// Wakes who waits for the scope, if no task of it waits or runs any longer.
     fn wake_if_settled(&self, scope: ScopeId) {
         let realm = self.core.realm();

@@ -8,7 +8,8 @@ use scope_rules::types::values::MAIN;
 use scope_rules::{Catalog, Limits, Refusal};
 use share_ledger::{OwnerShare, Seed};
 use std::alloc::Global;
-use std::sync::{Arc, Mutex};
+use std::hint::spin_loop;
+use std::sync::{Arc, Mutex, MutexGuard, Wait};
 
 /// The lock of a realm, and what those sleep on who wait for a moment alone. It is generic in what lies
 /// under the lock, so that the check shows of any that may go to another thread that this may too; a realm's
@@ -17,6 +18,24 @@ use std::sync::{Arc, Mutex};
 pub(crate) struct Shared<K: Drop> {
     pub(crate) locked: Mutex<K>,
     pub(crate) moments: Wakes,
+}
+
+/// How often a call tries to take the lock before it may sleep for it: a hold takes less than a microsecond, and to sleep
+/// and be woken some ten.
+const TRIES: u32 = 300;
+
+impl<K: Drop> Shared<K> {
+    /// Takes the lock, for a short hold that threads contend for. Std's own lock sleeps at once where one thread does, and
+    /// then so do all that come.
+    pub(crate) fn lock<R: Wait>(&self, rt: &R) -> MutexGuard<'_, K> {
+        for _ in 0..TRIES {
+            if let Some(guard) = self.locked.try_lock() {
+                return guard;
+            }
+            spin_loop();
+        }
+        self.locked.lock(rt)
+    }
 }
 
 /// A realm for threads to share: each has a share of it. Whenever its lock is free, its book is the

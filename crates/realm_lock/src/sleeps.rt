@@ -1,5 +1,5 @@
 ghost use Rattle.std.specs.Prelude.{ℕ, ◌*◌, ◌-◌, ◌≡◌, None, Some};
-ghost use Rattle.realm_lock.specs.{HasCome, Lacks, MatchOption, NANOS, as_nanos, history_of, mutex_guard_value, sooner};
+ghost use Rattle.realm_lock.specs.{IsPassed, Lacks, MatchOption, NANOS, as_nanos, history_of, mutex_guard_value, sooner};
 
 use crate::locked::LockedRealm;
 use crate::lookouts::{Lookout, Wanted};
@@ -46,20 +46,24 @@ impl<C: Catalog, N: RealmName> Realm<C, N> {
     }
 
     /// Sleeps until it is woken, a deadline has come, or `until`, unless what it wants is there; the clock has read `now`,
-    /// and no deadline has come by then. If the cell or bell isn't had, since std's count of holders is full, it doesn't
-    /// sleep. Takes the watch that the call owes, and gives the one that it owes then.
+    /// if there is one, and no deadline has come by then. If the cell or bell isn't had, since std's count of holders is full,
+    /// it doesn't sleep. Takes the watch that the call owes, and gives the one that it owes then.
     pub(crate) fn park<'a, R: Wait>(
         &'a self,
         rt: &R,
         locked: MutexGuard<'a, LockedRealm<C, N>>,
-        now: u64,
+        now: Option<u64>,
         until: Option<u64>,
         wanted: Wanted<'_>,
         owed: Option<OwedWatch>,
     ) -> Option<OwedWatch>
         requires busy { Lacks (history_of (mutex_guard_value locked).steps) wanted }
-        requires passed { HasCome (history_of (mutex_guard_value locked).steps) now → ⊥ }
+        requires passed { IsPassed (history_of (mutex_guard_value locked).steps) now }
     {
+        let Some(now) = now else {
+            let _locked = self.sleep_at(rt, locked, wanted);
+            return owed;
+        };
         let mut locked = locked;
         let Some(target) = wanted.target(&locked) else {
             return owed;

@@ -18,7 +18,7 @@ impl<C: Catalog, N: RealmName> Realm<C, N> {
         ensures given { given_in result.task result.seen ≡ false }
         ensures fitting { Fitting C.fitting (history_of result.seen) }
     {
-        let mut locked = self.shared.locked.lock(rt);
+        let mut locked = self.shared.lock(rt);
         locked.reject(&mut ticket);
         ticket
     }
@@ -32,7 +32,7 @@ impl<C: Catalog, N: RealmName> Realm<C, N> {
         ensures token { SeesMore token.old token.new × Added token.old token.new (RealmStep.Happened (Event.Reject ticket.task)) }
         ensures fitting { Fitting C.fitting (history_of result.seen) × Fitting C.fitting (history_seen token.new) }
     {
-        let mut locked = self.shared.locked.lock(rt);
+        let mut locked = self.shared.lock(rt);
         locked.reject_with(token, &mut ticket);
         ticket
     }
@@ -46,7 +46,7 @@ impl<C: Catalog, N: RealmName> Realm<C, N> {
         ensures token { result.1 ≡ record { table = N.table; limits = ticket.limits; actor = ticket.task; seen = result.0.seen } }
         ensures fitting { Fitting C.fitting (history_of result.0.seen) }
     {
-        let mut locked = self.shared.locked.lock(rt);
+        let mut locked = self.shared.lock(rt);
         let token = locked.start(&mut ticket);
         (ticket, token)
     }
@@ -67,8 +67,14 @@ impl<C: Catalog, N: RealmName> Realm<C, N> {
         ensures sure { innermost (history_seen token) token.actor ≡ None → IsOk result }
         ensures fitting { MatchResult result (λ ticket. Fitting C.fitting (history_of ticket.seen)) (λ back. Fitting C.fitting (history_of back.1.seen)) }
     {
-        let mut locked = self.shared.locked.lock(rt);
-        match locked.finish(&mut ticket, token, end) {
+        let mut locked = self.shared.lock(rt);
+        let (finished, owed) = locked.finish(&mut ticket, token, end);
+        drop(locked);
+        match owed {
+            Some(owed) => owed.wake(),
+            None => {}
+        }
+        match finished {
             Ok(()) => Ok(ticket),
             Err((refusal, token)) => Err((refusal, ticket, token)),
         }

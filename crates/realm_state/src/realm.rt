@@ -180,7 +180,7 @@ impl RealmState {
         requires { base ≡ base_of self.old.history }
         ensures { self.new ≡ starting self.old.limits base }
     {
-        self.trails = Trails::new(self.journal.allocator(), base.scopes());
+        self.trails.reset(base.scopes());
         self.index.reset(&base);
         self.journal.reset(base);
     }

@@ -93,10 +93,7 @@ in_field (word ∷ args) bytes names = in_form (keyword_said word) args bytes na
 
 of_fields : (line : List ℕ) (fault : WordFault) → NamesField (fields line) fault → NamesFirst line fault
 of_fields line (WordFault.TooLong bytes) names = absurd (in_field (fields line) bytes names)
-of_fields line WordFault.NoForm names = names
-of_fields line (WordFault.Wrong f n k) names = names
-of_fields line (WordFault.Missing f k) names = names
-of_fields line (WordFault.Extra f n) names = names
+of_fields line _ names = names
 
 pub faults_name_first : (line : List ℕ) (fault : WordFault) → fault_of line ≡ Some fault → NamesFirst line fault
 unfolding fault_of

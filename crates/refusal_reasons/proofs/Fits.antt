@@ -21,32 +21,13 @@ room_fits false x y is also = also
 
 -- what is said of a check that failed is of its refusal
 reason_fits : (L : Limits) (h : History) (f : Failed) → reason_refusal (reason_of L h f) ≡ refusal_of f
-reason_fits L h (Failed.ScopeRetired scope) = refl
-reason_fits L h (Failed.ScopeUnknown scope) = refl
-reason_fits L h (Failed.TaskRetired task) = refl
-reason_fits L h (Failed.TaskUnknown task) = refl
-reason_fits L h (Failed.NotRunning task) = refl
-reason_fits L h (Failed.NotWaiting task) = refl
-reason_fits L h (Failed.NotOwner actor scope) = refl
-reason_fits L h (Failed.NotTaskOwner actor task) = refl
-reason_fits L h (Failed.NotMain actor) = refl
 reason_fits L h (Failed.Closing scope) = either_fits (closed h scope) _ _ Refusal.Closed refl refl
-reason_fits L h (Failed.Closed scope) = refl
-reason_fits L h (Failed.NotClosing scope) = refl
 reason_fits L h (Failed.ClosingAround actor) = found_fits (innermost h actor) _ _ Refusal.Closed (λ s. refl) refl
-reason_fits L h (Failed.Joined scope) = refl
-reason_fits L h (Failed.NotJoined task) = refl
 reason_fits L h (Failed.Pending scope) = found_fits (pending_task h scope) _ _ Refusal.NotReady (λ k. refl) refl
 reason_fits L h (Failed.Unclosed actor) = found_fits (innermost h actor) _ _ Refusal.Structure (λ s. refl) refl
-reason_fits L h (Failed.NotInnermost actor scope) = refl
-reason_fits L h (Failed.BoundOtherwise actor scope) = refl
-reason_fits L h (Failed.NoBinding actor) = refl
-reason_fits L h (Failed.HeldBinding actor) = refl
-reason_fits L h (Failed.ClockBack now) = refl
-reason_fits L h (Failed.TooDeep actor) = refl
 reason_fits L h Failed.Scopes = room_fits (nat_le L.scopes (opened_count h)) _ _ refl refl
 reason_fits L h Failed.Tasks = room_fits (nat_le L.tasks (forked_count h)) _ _ refl refl
-reason_fits L h (Failed.Load units) = refl
+reason_fits L h _ = refl
 
 -- so is what explains a check
 explained_fits : (L : Limits) (h : History) (x : Tried Failed) → remade refusal_of x ≡ refusing (explained L h x)

@@ -1,5 +1,5 @@
 -- The lemmas of libraries that the proofs of this crate take, from one place.
-pub use Rattle.std.proofs.Common.{◌∙◌, ◌⊎◌, ap, append-nil, append_assoc, arith, cond, inl, inr, length-append, ok_or, refl, subst, sym}
+pub use Rattle.std.proofs.Common.{◌∙◌, ◌⊎◌, ap, append-nil, append_assoc, arith, cond, inl, inr, length-append, ok_or, refl, rules, subst, sym}
 pub use Rattle.std.proofs.lemmas.Bool.{both_ways, cases_lt, cases_order, eq-eqb, eqb-true, false_from_ne_true, lt-ltb, ltb-true, not-true}
 pub use Rattle.std.proofs.lemmas.List.{length-take, length-take-le, take-append-drop, take_all}
 pub use Rattle.std.proofs.lemmas.Option.{same_Some, slice_get_cases, slice_get_within, some_pair_parts}
@@ -10,4 +10,4 @@ pub use Rattle.scope_rules.proofs.Earlier.{before_of_before, earliest_first, ope
 pub use Rattle.scope_rules.proofs.{Accepted.lacks_begin, ClosingOwners.live_is_unclosed, InnermostEnds.opened_first, InnermostEnds.unclosed_around, Innermosts.HasUnclosed}
 pub use Rattle.scope_rules.proofs.{Innermosts.innermost_unclosed, Innermosts.opened_after, Nesting.IsOpened, Nesting.legal_before, Openings.and_then_some, Openings.if_some, PassedRows.BeginRow}
 pub use Rattle.scope_rules.proofs.{PassedRows.begin_close_passed, Prefixes.take_at, Prefixes.take_whole, Searching.earliest_found, Searching.earliest_kept, Searching.earliest_where}
-pub use Rattle.script_words.proofs.FieldSteps.{next_none, next_some}
+pub use Rattle.script_words.proofs.{FieldSteps.next_none, FieldSteps.next_some, SpelledCommands.said_by_fields}

@@ -1,46 +1,17 @@
 -- Why a line is no command: the first of its fields that its form does not have there.
 use Rattle.std.specs.Prelude.{if◌then◌else◌, ◌+◌, ◌∷◌, ◌≡◌}
-use Rattle.refusal_reasons.specs.Words.{[], ℕ, BadWord, Bool, FieldKind, Keyword, LINE_LIMIT, Line, List, None, OneNumber, OpenWord, Option, Silent, Slot, Some, TwoNumbers, WordFault}
-use Rattle.refusal_reasons.specs.Words.{begins_comment, bytes_eq, codes, deadline_said, false, fields, is_some, keyword_said, length, line_said, moment_said, name_said, nat_lt, new_deadline_said}
-use Rattle.refusal_reasons.specs.Words.{policy_said, small_said, true, value_said}
-
--- the fields of each form behind its first word
-abbrev pub slots : Keyword → List Slot
-slots Keyword.Open = Slot.Must FieldKind.Actor ∷ Slot.May OpenWord.Joiner ∷ Slot.May OpenWord.Deadline ∷ Slot.May OpenWord.MoveOn ∷ Slot.May OpenWord.Shield ∷ []
-slots Keyword.Fork = Slot.Must FieldKind.Actor ∷ Slot.Must FieldKind.Scope ∷ Slot.Must FieldKind.Name ∷ []
-slots Keyword.Succeed = Slot.Must FieldKind.Task ∷ Slot.Must FieldKind.Value ∷ []
-slots Keyword.Fail = Slot.Must FieldKind.Task ∷ Slot.Must FieldKind.Name ∷ []
-slots Keyword.Move = Slot.Must FieldKind.Scope ∷ Slot.Must FieldKind.Deadline ∷ []
-slots Keyword.Tick = Slot.Must FieldKind.Moment ∷ []
-slots Keyword.Bind = Slot.Must FieldKind.Actor ∷ Slot.Must FieldKind.Name ∷ Slot.Must FieldKind.Value ∷ []
-slots Keyword.Get = Slot.Must FieldKind.Actor ∷ Slot.Must FieldKind.Name ∷ []
-slots (Keyword.OneNumber OneNumber.Unbind) = Slot.Must FieldKind.Actor ∷ []
-slots (Keyword.OneNumber OneNumber.Retire) = Slot.Must FieldKind.Actor ∷ []
-slots (Keyword.OneNumber OneNumber.Cancel) = Slot.Must FieldKind.Scope ∷ []
-slots (Keyword.OneNumber OneNumber.Cause) = Slot.Must FieldKind.Scope ∷ []
-slots (Keyword.OneNumber OneNumber.Until) = Slot.Must FieldKind.Scope ∷ []
-slots (Keyword.OneNumber OneNumber.Counts) = Slot.Must FieldKind.Scope ∷ []
-slots (Keyword.OneNumber _) = Slot.Must FieldKind.Task ∷ []
-slots (Keyword.TwoNumbers TwoNumbers.ResultOf) = Slot.Must FieldKind.Actor ∷ Slot.Must FieldKind.Task ∷ []
-slots (Keyword.TwoNumbers TwoNumbers.FaultOf) = Slot.Must FieldKind.Actor ∷ Slot.Must FieldKind.Task ∷ []
-slots (Keyword.TwoNumbers _) = Slot.Must FieldKind.Actor ∷ Slot.Must FieldKind.Scope ∷ []
+use Rattle.refusal_reasons.specs.Words.{[], ℕ, BadWord, Bool, FieldKind, Keyword, LINE_LIMIT, Line, List, None, OpenWord, Option, Silent, Slot, Some, WordFault}
+use Rattle.refusal_reasons.specs.Words.{begins_comment, false, field_said, fields, is_some, keyword_said, length, line_said, nat_lt, option_said, slots, true}
 
 -- the word is what a field of this kind is to be
 abbrev pub is_kind : FieldKind → List ℕ → Bool
-is_kind FieldKind.Actor word = is_some (small_said word)
-is_kind FieldKind.Scope word = is_some (small_said word)
-is_kind FieldKind.Task word = is_some (small_said word)
-is_kind FieldKind.Moment word = is_some (moment_said word)
-is_kind FieldKind.Deadline word = is_some (new_deadline_said word)
-is_kind FieldKind.Name word = is_some (name_said word)
-is_kind FieldKind.Value word = is_some (value_said word)
+is_kind FieldKind.Actor word = is_some (field_said FieldKind.Actor word)
+is_kind k word = is_some (field_said k word)
 
 -- the word is this one of an open
 abbrev pub is_open_word : OpenWord → List ℕ → Bool
-is_open_word OpenWord.Joiner word = is_some (policy_said word)
-is_open_word OpenWord.Deadline word = is_some (deadline_said word)
-is_open_word OpenWord.MoveOn word = bytes_eq word (codes "move-on")
-is_open_word OpenWord.Shield word = bytes_eq word (codes "shield")
+is_open_word OpenWord.Joiner word = is_some (option_said OpenWord.Joiner word)
+is_open_word o word = is_some (option_said o word)
 
 -- the first of these fields, counted from n, that is not of its kind, is missing or is too many
 unfoldable pub misfit : Keyword → ℕ → List Slot → List (List ℕ) → Option WordFault

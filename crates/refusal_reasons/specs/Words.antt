@@ -15,11 +15,11 @@ pub use Rattle.scope_rules.specs.declared.types.capacity.TheConstants.{FORK_LOAD
 pub use Rattle.scope_rules.specs.declared.types.events.Event.TheVariants.{BeginClose, Bind, Cancel, EndClose, Finish, Fork, Join, Move, Open, Reject, Start, Tick, Unbind}
 pub use Rattle.scope_rules.specs.declared.types.{answers.Stage.Stage, answers.State.State, capacity.Limits.Limits, checks.Failed.Failed, events.Event.Event, joiners.Policy.TheVariants.AwaitOk}
 pub use Rattle.scope_rules.specs.declared.types.{names.Name.Name, records.Forking.Forking, records.Opening.Opening, refusals.Refusal.Refusal, values.Value.Value}
-pub use Rattle.script_words.specs.{Fields.first_and_rest, Fields.is_space, Lines.begins_comment, Lines.line_of, Numbers.moment_said, Numbers.small_said, Openings.deadline_said, Openings.flag_said}
-pub use Rattle.script_words.specs.{Openings.found_or, Openings.is_empty, Openings.next_said, Steps.◌>>=◌}
+pub use Rattle.script_words.specs.{Fields.first_and_rest, Fields.is_space, Lines.begins_comment, Lines.line_of, Numbers.small_said, Openings.deadline_said, Openings.due_said, Openings.flag_said}
+pub use Rattle.script_words.specs.{Fields.is_empty, Forms.Maker, Forms.made, Forms.made_of, Forms.slots, Openings.found_or, Rows.Chosen, Rows.OfSlot, Rows.Said, Rows.field_said, Rows.left_out, Rows.option_said, Steps.◌>>=◌}
 pub use Rattle.script_words.specs.declared.{commands.Command.Command, commands.Line.Line, commands.Line.TheVariants.BadWord, commands.Line.TheVariants.Silent, commands.Query.Query}
-pub use Rattle.script_words.specs.declared.{keywords.Keyword.Keyword, keywords.OneNumber.OneNumber, keywords.TwoNumbers.TwoNumbers, lines.TheConstants.LINE_LIMIT}
-pub use Rattle.refusal_reasons.specs.declared.{faults.WordFault.WordFault, forms.FieldKind.FieldKind, forms.OpenWord.OpenWord, forms.Slot.Slot, line_places.Place.Place}
+pub use Rattle.script_words.specs.declared.{keywords.Keyword.Keyword, lines.TheConstants.LINE_LIMIT, rows.FieldKind.FieldKind, rows.OpenWord.OpenWord, rows.Slot.Slot}
+pub use Rattle.refusal_reasons.specs.declared.{faults.WordFault.WordFault, line_places.Place.Place}
 pub use Rattle.refusal_reasons.specs.declared.{reasons.ActorObstacle.ActorObstacle, reasons.Reason.Reason, reasons.RoomObstacle.RoomObstacle, reasons.ScopeObstacle.ScopeObstacle}
 pub use Rattle.refusal_reasons.specs.declared.{reasons.TaskObstacle.TaskObstacle}
 unfoldable pub use Rattle.scope_rules.specs.Bindings.{bindings, bound_as_opened, bound_to, holds_last, stack}
@@ -28,8 +28,5 @@ unfoldable pub use Rattle.scope_rules.specs.Scopes.{closed, closing, covers, inn
 unfoldable pub use Rattle.scope_rules.specs.{Cancels.is_cancelled, Completions.is_task_of, History.forking, History.moment, History.opening, Legal.Legal, Load.load, Nests.inner, Nests.next_unclosed}
 unfoldable pub use Rattle.scope_rules.specs.{Nests.outermost, Nests.tasks_of, Replies.binding_reply, Replies.fault_reply, Replies.result_reply, Search.earliest, Search.some_below, Table.reading_check}
 unfoldable pub use Rattle.scope_rules.specs.{Table.retire_check, Table.row_check, Table.until_check, Tasks.ready, Tasks.settled, Tasks.stage, Tasks.state}
-unfoldable pub use Rattle.script_words.specs.Forms.{bind_said, fail_said, fork_said, form_said, get_said, move_said, new_deadline_said, number_alone, ok_said, one_number_said, tick_said, two_numbers}
-unfoldable pub use Rattle.script_words.specs.Forms.{two_numbers_said}
-unfoldable pub use Rattle.script_words.specs.Openings.{deadline_next, flag_next, open_said, opened, policy_next}
-unfoldable pub use Rattle.script_words.specs.{Fields.fields, Fields.just_one, Fields.just_three, Fields.just_two, Fields.without_spaces, Joiners.after, Joiners.policy_said, Keywords.keyword_said}
-unfoldable pub use Rattle.script_words.specs.{Lines.command_said, Lines.fields_said, Lines.line_said, Near.is_near, Words.name_said, Words.value_said}
+unfoldable pub use Rattle.script_words.specs.{Fields.fields, Fields.just_one, Fields.without_spaces, Forms.form_said, Forms.keyword_said, Numbers.first_said, Openings.next_said}
+unfoldable pub use Rattle.script_words.specs.{Lines.command_said, Lines.fields_said, Lines.line_said}

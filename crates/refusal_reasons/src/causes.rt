@@ -1,8 +1,7 @@
 //! What is said of a word that is not what it is to be.
 
-use crate::forms::FieldKind;
 use crate::line_shown::ShownByte;
-use script_words::is_near;
+use script_words::{FieldKind, is_near};
 use std::fmt;
 
 /// What other systems and editors leave in the word, if anything, and what it is to be instead.

@@ -1,8 +1,7 @@
-//! That the faults are those of the bad words, that each names the first field that is wrong, and calls it what the
-//! command takes it for, and that the fields stand where they are shown. The functions do nothing: their contracts
-//! are the laws.
+//! That the faults are those of the bad words, that each names the first field that is wrong, and that the fields stand
+//! where they are shown. The functions do nothing: their contracts are the laws.
 
-ghost use Rattle.refusal_reasons.specs.{FaultsFit, FaultsNameFirst, FieldsAreCalled, PlacesFit};
+ghost use Rattle.refusal_reasons.specs.{FaultsFit, FaultsNameFirst, PlacesFit};
 
 /// A line has a fault just where it is a bad word.
 #[tactic(auto, using(crate::proofs::FieldsFit::faults_fit))]
@@ -15,12 +14,6 @@ pub fn faults_fit()
 #[tactic(auto, using(crate::proofs::FirstWrong::faults_name_first))]
 pub fn faults_name_the_first()
     ensures { FaultsNameFirst }
-{}
-
-/// A field that a form calls an actor, a scope or a task is the command's actor, scope or task.
-#[tactic(auto, using(crate::proofs::FieldsFit::form_called))]
-pub fn fields_are_called()
-    ensures { FieldsAreCalled }
 {}
 
 /// A field of a line is the bytes at its place.

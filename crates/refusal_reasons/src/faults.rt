@@ -2,8 +2,8 @@
 ghost use Rattle.std.specs.Prelude.{◌+◌, ◌≡◌, ◌≤◌};
 ghost use Rattle.refusal_reasons.specs.{fault_of, fields, fields_fault, length, misfit};
 
-use crate::forms::{FieldKind, Slot, is_kind, is_open_word, slots};
-use script_words::{Keyword, LINE_LIMIT, keyword_of, next_field};
+use crate::forms::{is_kind, is_open_word};
+use script_words::{FieldKind, Keyword, LINE_LIMIT, Slot, keyword_of, next_field, slots};
 
 /// Why a line is no command. Fields are counted from 0, behind the first word.
 #[derive(Clone, Copy)]

@@ -28,7 +28,6 @@ mod shown;
 pub use events::Events;
 pub use explaining::{event_reason, query_reason, retire_reason};
 pub use faults::{WordFault, fault_of};
-pub use forms::{FieldKind, OpenWord, Slot};
 pub use line_places::{Place, place_of};
 pub use line_shown::{ShownBytes, ShownPlace};
 pub use reasons::{ActorObstacle, Reason, RoomObstacle, ScopeObstacle, TaskObstacle};

@@ -2,10 +2,10 @@
 
 use crate::causes::{alien_in, cause_of, nearest};
 use crate::faults::WordFault;
-use crate::forms::{FieldKind, OpenWord, Slot, is_open_word, slots};
+use crate::forms::is_open_word;
 use crate::line_places::{first_field, later_field};
 use crate::line_shown::ShownBytes;
-use script_words::{Keyword, LINE_LIMIT};
+use script_words::{FieldKind, Keyword, LINE_LIMIT, OpenWord, Slot, slots};
 use std::fmt;
 
 /// The letter or word that stands for a field of the kind.

@@ -50,44 +50,6 @@ fn write_scope<W: fmt::Write>(
                 "there is no scope {scope} (scopes opened so far: {opened})"
             )
         }
-        ScopeObstacle::LetGo { last } => {
-            write!(
-                f,
-                "scope {scope} was discarded by a retire, as were all scopes up to {last}"
-            )
-        }
-        ScopeObstacle::Owned { owner, actor } => {
-            let (owner, actor) = (ShownActor(owner), ShownActor(actor));
-            write!(f, "scope {scope} is owned by {owner}, not by {actor}")
-        }
-        ScopeObstacle::Closing { event } => {
-            write!(
-                f,
-                "scope {scope} has been closing since line {}",
-                line_of(lines, event)
-            )
-        }
-        ScopeObstacle::Closed { event } => {
-            write!(
-                f,
-                "scope {scope} was closed at line {}",
-                line_of(lines, event)
-            )
-        }
-        ScopeObstacle::ClosingAround { actor, event } => {
-            let (actor, line) = (ShownActor(actor), line_of(lines, event));
-            write!(
-                f,
-                "scope {scope}, the innermost scope of {actor}, has been closing since line {line}"
-            )
-        }
-        ScopeObstacle::Joined { event } => {
-            write!(
-                f,
-                "scope {scope} was joined at line {}",
-                line_of(lines, event)
-            )
-        }
         ScopeObstacle::NotClosing => write!(f, "the close of scope {scope} has not begun"),
         ScopeObstacle::Awaits { task, stage } => {
             write!(
@@ -96,17 +58,6 @@ fn write_scope<W: fmt::Write>(
                 stage_text(stage)
             )
         }
-        of_actor => write_nesting(f, scope, of_actor),
-    }
-}
-
-/// What is so of the scope by its actor's scopes and bindings.
-fn write_nesting<W: fmt::Write>(
-    f: &mut fmt::Formatter<W>,
-    scope: ScopeId,
-    obstacle: ScopeObstacle,
-) -> fmt::Result {
-    match obstacle {
         ScopeObstacle::BoundOtherwise { actor, pairs } => {
             let actor = ShownActor(actor);
             write!(
@@ -121,14 +72,55 @@ fn write_nesting<W: fmt::Write>(
             let actor = ShownActor(actor);
             match innermost {
                 None => write!(f, "all scopes of {actor} are closed"),
-                Some(inside) => {
-                    write!(
-                        f,
-                        "the innermost scope of {actor} is scope {inside}, not scope {scope}"
-                    )
-                }
+                Some(inside) => write!(
+                    f,
+                    "the innermost scope of {actor} is scope {inside}, not scope {scope}"
+                ),
             }
         }
+        of_scope => write_of_scope(f, lines, scope, of_scope),
+    }
+}
+
+/// What the scope itself is.
+fn write_of_scope<W: fmt::Write>(
+    f: &mut fmt::Formatter<W>,
+    lines: &[u64],
+    scope: ScopeId,
+    obstacle: ScopeObstacle,
+) -> fmt::Result {
+    write!(f, "scope {scope}")?;
+    match obstacle {
+        ScopeObstacle::LetGo { last } => {
+            write!(
+                f,
+                " was discarded by a retire, as were all scopes up to {last}"
+            )
+        }
+        ScopeObstacle::Owned { owner, actor } => {
+            let (owner, actor) = (ShownActor(owner), ShownActor(actor));
+            write!(f, " is owned by {owner}, not by {actor}")
+        }
+        ScopeObstacle::Closing { event } => {
+            write!(f, " has been closing since line {}", line_of(lines, event))
+        }
+        ScopeObstacle::Closed { event } => write!(
+            f,
+            " was closed at line {}",
+            line_of(lines, event)
+        ),
+        ScopeObstacle::ClosingAround { actor, event } => {
+            let (actor, line) = (ShownActor(actor), line_of(lines, event));
+            write!(
+                f,
+                ", the innermost scope of {actor}, has been closing since line {line}"
+            )
+        }
+        ScopeObstacle::Joined { event } => write!(
+            f,
+            " was joined at line {}",
+            line_of(lines, event)
+        ),
         _ => Ok(()),
     }
 }
@@ -139,23 +131,20 @@ fn write_task<W: fmt::Write>(
     task: TaskId,
     obstacle: TaskObstacle,
 ) -> fmt::Result {
+    if let TaskObstacle::Unknown { forked } = obstacle {
+        return write!(f, "there is no task {task} (tasks forked so far: {forked})");
+    }
+    write!(f, "task {task} ")?;
     match obstacle {
-        TaskObstacle::Unknown { forked } => {
-            write!(f, "there is no task {task} (tasks forked so far: {forked})")
-        }
+        TaskObstacle::Unknown { .. } => Ok(()),
         TaskObstacle::LetGo { last } => {
             write!(
                 f,
-                "task {task} was discarded by a retire, as were all tasks up to {last}"
+                "was discarded by a retire, as were all tasks up to {last}"
             )
         }
         TaskObstacle::AtStage { stage, wanted } => {
-            write!(
-                f,
-                "task {task} is {}, not {}",
-                stage_text(stage),
-                stage_text(wanted)
-            )
+            write!(f, "is {}, not {}", stage_text(stage), stage_text(wanted))
         }
         TaskObstacle::Owned {
             scope,
@@ -165,24 +154,21 @@ fn write_task<W: fmt::Write>(
             let (owner, actor) = (ShownActor(owner), ShownActor(actor));
             write!(
                 f,
-                "task {task} was forked in scope {scope}, which is owned by {owner}, not by {actor}"
+                "was forked in scope {scope}, which is owned by {owner}, not by {actor}"
             )
         }
         TaskObstacle::NotJoined { scope } => {
-            write!(
-                f,
-                "task {task} was forked in scope {scope}, which is not joined yet"
-            )
+            write!(f, "was forked in scope {scope}, which is not joined yet")
         }
         TaskObstacle::Unreadable {
             scope,
             stage: Stage::Finished,
-        } => { write!(f, "task {task} ended after its scope {scope} was cancelled") }
+        } => write!(f, "ended after its scope {scope} was cancelled"),
         TaskObstacle::Unreadable { stage, .. } => {
-            write!(f, "task {task} is {}, not finished", stage_text(stage))
+            write!(f, "is {}, not finished", stage_text(stage))
         }
-        TaskObstacle::Failed { fault } => write!(f, "task {task} failed with {fault}"),
-        TaskObstacle::Succeeded { value } => write!(f, "task {task} succeeded with {value}"),
+        TaskObstacle::Failed { fault } => write!(f, "failed with {fault}"),
+        TaskObstacle::Succeeded { value } => write!(f, "succeeded with {value}"),
     }
 }
 

@@ -3,7 +3,6 @@
 mod batched;
 mod deeds;
 mod duties;
-mod helped;
 mod logs;
 mod outcomes;
 mod rows;

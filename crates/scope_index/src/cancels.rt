@@ -137,6 +137,19 @@ impl CancelIndex {
         }
     }
 
+    /// Begins anew at the moment, in milliseconds, with `before` scopes numbered. It keeps the memory, and
+    /// takes none.
+    #[tactic(auto, using(crate::proofs::Beginning::begun))]
+    pub fn reset(&mut self, before: u32, moment: u64)
+        ensures { (b : Origin) → b.scopes ≡ before → b.moment ≡ moment → AreCancelsOf (record { base = b; events = [] }) self.new }
+    {
+        self.before = before;
+        self.moment = moment;
+        self.tree.clear();
+        self.deadlines = DeadlineOrder::new(self.alloc);
+        self.accounts.clear();
+    }
+
     /// Gives the scope its own cancel, which stays if it has one. Takes no memory.
     pub fn cancel(&mut self, scope: ScopeId, kind: CauseKind, place: usize)
         requires row { HasRow self.old scope }

@@ -79,6 +79,14 @@ impl Forks {
         }
     }
 
+    /// Leaves no scopes, if so many were numbered before. It keeps the memory of the lists' list, and
+    /// takes none.
+    pub fn reset(&mut self, before: u32)
+        ensures agrees { (base : Origin) → base.scopes ≡ before → AreForksOf (record { base = base; events = [] }) self.new }
+    {
+        self.lists.reset(before);
+    }
+
     /// The tasks of the scope, in fork order.
     pub fn of(&self, scope: ScopeId) -> &[TaskId]
         requires { HasForks self.now scope }

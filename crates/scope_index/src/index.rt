@@ -17,7 +17,6 @@ pub struct RealmIndex {
     pub(crate) envs: Envs,
     pub(crate) forks: Forks,
     pub(crate) deadlines: OwnDeadlines,
-    alloc: Global,
 }
 
 impl Model for RealmIndex {
@@ -44,7 +43,6 @@ impl RealmIndex {
             envs: Envs::new(alloc),
             forks: Forks::new(alloc, 0),
             deadlines: OwnDeadlines::new(alloc, 0),
-            alloc,
         }
     }
 
@@ -58,21 +56,20 @@ impl RealmIndex {
             envs: Envs::with_base(alloc, base)?,
             forks: Forks::new(alloc, base.scopes()),
             deadlines: OwnDeadlines::new(alloc, base.scopes()),
-            alloc,
         })
     }
 
     /// Drops all but what the base says, which the history leaves. It takes no memory, and keeps
-    /// that of the rows and the environments for what comes.
+    /// its tables' for what comes.
     pub fn reset(&mut self, base: &Base)
         requires { (h : History) × IsIndexOf h self.old × (base.now ≡ base_of h) }
         ensures { IsIndexOf (record { base = base.now; events = [] }) self.new }
     {
         self.rows.reset(base.scopes(), base.tasks());
         self.envs.reset(base.tasks());
-        self.cancels = CancelIndex::new(self.alloc, base.scopes(), base.moment());
-        self.forks = Forks::new(self.alloc, base.scopes());
-        self.deadlines = OwnDeadlines::new(self.alloc, base.scopes());
+        self.cancels.reset(base.scopes(), base.moment());
+        self.forks.reset(base.scopes());
+        self.deadlines.reset(base.scopes());
     }
 }
 

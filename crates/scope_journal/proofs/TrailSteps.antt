@@ -122,7 +122,7 @@ roomy_agrees h t u before links lasts room are = record {
 }
 
 -- a realm begins with no trails
-pub begins : (before : ℕ) (b : Origin) (t : TrailTable) → t ≡ no_trails before → b.scopes ≡ before → AreTrailsOf (record { base = b; events = [] }) t
+pub begins : (before : ℕ) (b : Origin) (t : TrailTable) → t ≡ record (no_trails before) { room = t.room; spare = t.spare } → b.scopes ≡ before → AreTrailsOf (record { base = b; events = [] }) t
 unfolding load
 begins before b t is scopes =
     subst (AreTrailsOf (record { base = b; events = [] })) (sym is) (record {

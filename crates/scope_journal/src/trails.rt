@@ -40,6 +40,15 @@ impl Trails {
         }
     }
 
+    /// Leaves no events and no scopes, if so many scopes were numbered before. It keeps the memory, and
+    /// takes none.
+    pub fn reset(&mut self, before: u32)
+        ensures agrees { (base : Origin) → base.scopes ≡ before → AreTrailsOf (record { base = base; events = [] }) self.new }
+    {
+        self.links.clear();
+        self.lasts.reset(before);
+    }
+
     /// The places of the scope's events, the earliest first, in time by how many they are.
     ///
     /// # Errors

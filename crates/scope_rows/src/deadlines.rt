@@ -36,6 +36,13 @@ impl OwnDeadlines {
         }
     }
 
+    /// Leaves no scopes, if so many were numbered before. It keeps the memory, and takes none.
+    pub fn reset(&mut self, before: u32)
+        ensures agrees { (base : Origin) → base.scopes ≡ before → AreDeadlinesOf (record { base = base; events = [] }) self.new }
+    {
+        self.deadlines.reset(before);
+    }
+
     /// The scope's own deadline, in milliseconds, if it has one.
     pub fn of(&self, scope: ScopeId) -> Option<u64>
         requires { HasDeadline self.now scope }

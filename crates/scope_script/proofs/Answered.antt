@@ -1,8 +1,8 @@
 -- From what the book answers of a command to its reply.
-use Rattle.std.proofs.Common.{ℕ, ◌&&◌, ◌∙◌, ◌≡◌, ◌⊎◌, Bool, Err, Ok, Option, Result, Some, ap, false, if◌then◌else◌, inl, inr, is_ok, not, refl, sym, true}
+use Rattle.std.proofs.Common.{ℕ, ◌&&◌, ◌∙◌, ◌≡◌, ◌⊎◌, Bool, Err, Ok, Option, Result, Some, ap, false, if◌then◌else◌, inl, inr, is_ok, not, refl, subst, sym, true}
 use Rattle.scope_script.specs.{Answers, AnswersOrMemory, AnswersValue, Checked, Do, Event, EventReply, History, Memory, Origin, Outcome, Performs, PerformsOrStops, Realm, Refusal, Reply, Retire, Tells, after, after_retiring}
 use Rattle.scope_script.specs.{after_telling, answering, base_of, check_of, event_reply_of, is_already, is_join, noted, outcome, outcome_check, passed_reply, realm_after, refused_or, replied, reply_of, reply_to, retire_check}
-use Rattle.scope_script.specs.{told_base, wants_memory, with_event}
+use Rattle.scope_script.specs.{Tally, done_reply, is_refused, told_base, wants_memory, with_event, with_reply}
 use Rattle.scope_rules.specs.declared.types.events.Event.TheVariants as event
 use Rattle.script_words.specs.declared.reply.Reply.TheVariants as reply
 use Rattle.scope_checks.specs.declared.event_replies.EventReply.TheVariants as told
@@ -15,19 +15,10 @@ noted_reply e said false is = is
 
 -- what is told, as a reply, is what scripts say of it
 replies : (h : History) (e : Event) → is_join (Do e) ≡ false → reply_of e (told_of_event h e) ≡ passed_reply h e
-replies h (event.Open actor policy options) no_join = refl
-replies h (event.Fork actor scope label) no_join = refl
-replies h (event.Reject task) no_join = refl
-replies h (event.Start task) no_join = refl
-replies h (event.Finish task end) no_join = refl
 replies h (event.Cancel scope) no_join = noted_reply (event.Cancel scope) reply.Cancelled (is_already h (event.Cancel scope)) refl
-replies h (event.Move scope deadline) no_join = refl
-replies h (event.Tick now) no_join = refl
-replies h (event.Bind actor pair) no_join = refl
-replies h (event.Unbind actor) no_join = refl
 replies h (event.Join actor scope) no_join = absurd cc
 replies h (event.BeginClose actor scope) no_join = noted_reply (event.BeginClose actor scope) reply.Closing (is_already h (event.BeginClose actor scope)) refl
-replies h (event.EndClose actor scope) no_join = refl
+replies h _ no_join = refl
 
 noted_leaves : (old : Realm) (e : Event) (already : Bool) → after_telling old e (Ok (noted already)) ≡ (if not already then with_event old e else old)
 noted_leaves old e true = refl
@@ -35,19 +26,9 @@ noted_leaves old e false = refl
 
 -- so is what is left
 leaves : (old : Realm) (h : History) (e : Event) → after_telling old e (Ok (told_of_event h e)) ≡ (if not (is_already h e) then with_event old e else old)
-leaves old h (event.Open actor policy options) = refl
-leaves old h (event.Fork actor scope label) = refl
-leaves old h (event.Reject task) = refl
-leaves old h (event.Start task) = refl
-leaves old h (event.Finish task end) = refl
 leaves old h (event.Cancel scope) = noted_leaves old (event.Cancel scope) (is_already h (event.Cancel scope))
-leaves old h (event.Move scope deadline) = refl
-leaves old h (event.Tick now) = refl
-leaves old h (event.Bind actor pair) = refl
-leaves old h (event.Unbind actor) = refl
-leaves old h (event.Join actor scope) = refl
 leaves old h (event.BeginClose actor scope) = noted_leaves old (event.BeginClose actor scope) (is_already h (event.BeginClose actor scope))
-leaves old h (event.EndClose actor scope) = refl
+leaves old h _ = refl
 
 -- an event that was accepted has the reply of scripts
 pub accepted : (old new : Realm) (e : Event) (told : EventReply) → is_join (Do e) ≡ false → Tells old e (Ok told) new → Performs old (Do e) new (reply_of e told)
@@ -68,6 +49,38 @@ refused_by old new e r no_join (inr none) same = inl (record { memory = ap reply
 
 pub refused : (old new : Realm) (e : Event) (r : Refusal) → is_join (Do e) ≡ false → Tells old e (Err r) new → PerformsOrStops old (Do e) new (reply.Refused r)
 refused old new e r no_join is = refused_by old new e r no_join is.0 is.1
+
+done_unrefused : (e : Event) → is_refused (done_reply e) ≡ false
+done_unrefused (event.Reject task) = refl
+done_unrefused _ = refl
+
+-- no refusal is told of an event that was accepted
+unrefused : (e : Event) (told : EventReply) → is_refused (reply_of e told) ≡ false
+unrefused e told.Recorded = done_unrefused e
+unrefused e told.Done = done_unrefused e
+unrefused e _ = refl
+
+-- what an accepted event leaves, and what is told of it
+pub accepted_after : (old new : Realm) (e : Event) (told : EventReply) → is_join (Do e) ≡ false → Tells old e (Ok told) new → new ≡ realm_after old (Do e)
+accepted_after old new e told no_join is = (accepted old new e told no_join is).realm
+
+pub accepted_said : (old new : Realm) (e : Event) (told : EventReply) → is_join (Do e) ≡ false → Tells old e (Ok told) new → reply_of e told ≡ reply_to old (Do e)
+accepted_said old new e told no_join is = (accepted old new e told no_join is).reply
+
+uncounted : (t : Tally) (said : Reply) → is_refused said ≡ false → t ≡ with_reply t said
+uncounted t said is = rw is refl
+
+-- it counts as no refusal
+pub accepted_counted : (t : Tally) (old new : Realm) (e : Event) (told : EventReply) → is_join (Do e) ≡ false → Tells old e (Ok told) new → t ≡ with_reply t (reply_to old (Do e))
+accepted_counted t old new e told no_join is = subst (λ (r : Reply). t ≡ with_reply t r) (accepted_said old new e told no_join is) (uncounted t (reply_of e told) (unrefused e told))
+
+-- an event that was refused, but not for memory, is told so
+pub refused_said : (old new : Realm) (e : Event) (r : Refusal) → is_join (Do e) ≡ false → (r ≡ Memory → ⊥) → Tells old e (Err r) new → Performs old (Do e) new (reply.Refused r)
+refused_said old new e r no_join other is =
+    elim (refused old new e r no_join is) [
+      | inl none ↦ absurd (other cc)
+      | inr done ↦ done
+    ]
 
 -- an event that is no join by its shape
 pub no_join : (e : Event) → ((actor scope : ℕ) → e ≡ event.Join actor scope → ⊥) → is_join (Do e) ≡ false

@@ -12,19 +12,8 @@ outcome_is_told None is = cc
 
 -- no event is told that memory was refused
 event_is_told : (h : History) (e : Event) → event_reply_of h e ≡ reply.Refused Memory → ⊥
-event_is_told h (event.Open actor policy options) is = cc
-event_is_told h (event.Fork actor scope label) is = cc
-event_is_told h (event.Reject task) is = cc
-event_is_told h (event.Start task) is = cc
-event_is_told h (event.Finish task end) is = cc
-event_is_told h (event.Cancel scope) is = cc
-event_is_told h (event.Move scope deadline) is = cc
-event_is_told h (event.Tick now) is = cc
-event_is_told h (event.Bind actor pair) is = cc
-event_is_told h (event.Unbind actor) is = cc
 event_is_told h (event.Join actor scope) is = outcome_is_told (outcome (followed h (event.Join actor scope)) scope) is
-event_is_told h (event.BeginClose actor scope) is = cc
-event_is_told h (event.EndClose actor scope) is = cc
+event_is_told h _ is = cc
 
 refused_by_check : (old : Realm) (e : Event) (check : Checked) (already : Bool) (told : Reply) → (told ≡ reply.Refused Memory → ⊥) → reply.Refused Memory ≡ refused_or check (if already then reply.Already else told) → (if is_ok check && not already then with_event old e else old) ≡ old
 refused_by_check old e (Ok done) true told never is = refl

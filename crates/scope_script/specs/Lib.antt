@@ -1,16 +1,3 @@
-pub use Rattle.script_words.specs.Steps
-pub use Rattle.script_words.specs.Fields
-pub use Rattle.script_words.specs.Numbers
-pub use Rattle.script_words.specs.Words
-pub use Rattle.script_words.specs.Joiners
-pub use Rattle.script_words.specs.Keywords
-pub use Rattle.script_words.specs.Openings
-pub use Rattle.script_words.specs.Forms
-pub use Rattle.script_words.specs.Lines
-pub use Rattle.script_words.specs.NumberLaws
-pub use Rattle.script_words.specs.Spelling
-pub use Rattle.script_words.specs.ReplyText
-pub use Rattle.script_words.specs.Printable
 pub mod Replying
 pub mod Cutting
 pub mod Sessions

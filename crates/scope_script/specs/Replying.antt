@@ -18,23 +18,7 @@ abbrev pub refused_or : Checked → Reply → Reply
 refused_or (Ok done) said = said
 refused_or (Err r) said = reply.Refused r
 
--- what an event is told that is accepted on the history
-abbrev pub event_reply_of : History → Event → Reply
-event_reply_of h (event.Open actor policy options) = reply.Scope (next_scope h)
-event_reply_of h (event.Fork actor scope label) = reply.Task (fork_reply h scope)
-event_reply_of h (event.Reject task) = reply.Rejected
-event_reply_of h (event.Start task) = reply.Started
-event_reply_of h (event.Finish task end) = reply.Finished
-event_reply_of h (event.Cancel scope) = reply.Cancelled
-event_reply_of h (event.Move scope deadline) = reply.Moved
-event_reply_of h (event.Tick now) = reply.Moment now
-event_reply_of h (event.Bind actor pair) = reply.Bound
-event_reply_of h (event.Unbind actor) = reply.Unbound
-event_reply_of h (event.Join actor scope) = replied reply.Outcome (ok_or (outcome (followed h (event.Join actor scope)) scope) NotJoined)
-event_reply_of h (event.BeginClose actor scope) = reply.Closing
-event_reply_of h (event.EndClose actor scope) = reply.Closed (verdict h scope)
-
--- the reply to an event that was recorded and tells no more
+-- the reply to an event that is recorded and tells no more
 abbrev pub done_reply : Event → Reply
 done_reply (event.Reject task) = reply.Rejected
 done_reply (event.Start task) = reply.Started
@@ -46,6 +30,14 @@ done_reply (event.Bind actor pair) = reply.Bound
 done_reply (event.Unbind actor) = reply.Unbound
 done_reply (event.BeginClose actor scope) = reply.Closing
 done_reply other = reply.Already
+
+-- what an event is told that is accepted on the history
+abbrev pub event_reply_of : History → Event → Reply
+event_reply_of h (event.Open actor policy options) = reply.Scope (next_scope h)
+event_reply_of h (event.Fork actor scope label) = reply.Task (fork_reply h scope)
+event_reply_of h (event.Join actor scope) = replied reply.Outcome (ok_or (outcome (followed h (event.Join actor scope)) scope) NotJoined)
+event_reply_of h (event.EndClose actor scope) = reply.Closed (verdict h scope)
+event_reply_of h e = done_reply e
 
 -- the reply to an event that was told so by its realm; the realm tells nothing of what a join gave
 abbrev pub reply_of : Event → EventReply → Reply

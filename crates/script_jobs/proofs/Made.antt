@@ -31,5 +31,5 @@ one_made n text more made one = record {
 pub fallback : LineSaysTheCommand → is_answered_line (codes "tick 0") ≡ true
 unfolding words_of HasWords digits
 fallback law =
-    let said : line_said (codes "tick 0") ≡ Line.Command (Do (Tick 0)) = law (Do (Tick 0)) (lit< tt) in
+    let said : line_said (codes "tick 0") ≡ Line.Command (Do (Tick 0)) = law (Do (Tick 0)) ((lit< tt, tt), refl) in
     rw said refl

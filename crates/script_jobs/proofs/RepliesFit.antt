@@ -35,19 +35,8 @@ join_told realm a s passes =
     outcome_there (followed h e) s (outcome_passes (followed h e) s known (joined_then h a s))
 
 told_fits : (realm : Realm) (e : Event) → check_of realm.limits realm.history e ≡ Ok tt → refusal_said (event_reply_of realm.history e) ≡ Ok tt
-told_fits realm (Event.Open actor policy options) passes = refl
-told_fits realm (Event.Fork actor scope label) passes = refl
-told_fits realm (Event.Reject task) passes = refl
-told_fits realm (Event.Start task) passes = refl
-told_fits realm (Event.Finish task end) passes = refl
-told_fits realm (Event.Cancel scope) passes = refl
-told_fits realm (Event.Move scope deadline) passes = refl
-told_fits realm (Event.Tick now) passes = refl
-told_fits realm (Event.Bind actor pair) passes = refl
-told_fits realm (Event.Unbind actor) passes = refl
 told_fits realm (Event.Join actor scope) passes = outcome_said (outcome (followed realm.history (Event.Join actor scope)) scope) (join_told realm actor scope passes)
-told_fits realm (Event.BeginClose actor scope) passes = refl
-told_fits realm (Event.EndClose actor scope) passes = refl
+told_fits realm _ passes = refl
 
 do_fits : (c : Checked) (already : Bool) (told : Reply) → (c ≡ Ok tt → refusal_said told ≡ Ok tt) → refusal_said (refused_or c (if already then Reply.Already else told)) ≡ c
 do_fits (Ok done) true told fits = refl

@@ -46,18 +46,7 @@ gave (Some x) some = refl
 
 told_unrefused : (L : Limits) (h : History) (e : Event) → Accepts L h e → is_refused (event_reply_of h e) ≡ false
 told_unrefused L h (event.Join actor scope) is = gave (outcome (followed h (event.Join actor scope)) scope) (outcome_there (followed h (event.Join actor scope)) scope (may_be_asked L h actor scope is))
-told_unrefused L h (event.Open actor policy options) is = refl
-told_unrefused L h (event.Fork actor scope label) is = refl
-told_unrefused L h (event.Reject task) is = refl
-told_unrefused L h (event.Start task) is = refl
-told_unrefused L h (event.Finish task end) is = refl
-told_unrefused L h (event.Cancel scope) is = refl
-told_unrefused L h (event.Move scope deadline) is = refl
-told_unrefused L h (event.Tick now) is = refl
-told_unrefused L h (event.Bind actor pair) is = refl
-told_unrefused L h (event.Unbind actor) is = refl
-told_unrefused L h (event.BeginClose actor scope) is = refl
-told_unrefused L h (event.EndClose actor scope) is = refl
+told_unrefused L h _ is = refl
 
 pub accepted_unrefused : (L : Limits) (h : History) (e : Event) → Accepts L h e → is_refused (reply_to (ruled L h) (Do e)) ≡ false
 unfolding reply_to

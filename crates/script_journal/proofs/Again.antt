@@ -1,11 +1,11 @@
 -- The script of a history without dues is that of the history.
 use Rattle.std.proofs.Common.{[], ℕ, ◌++◌, ◌∙◌, ◌∷◌, ◌≡◌, List, ap, ap₂, map, refl, sym}
-use Rattle.script_journal.specs.{Event, JournalStays, JournalTellsAll, Origin, Realm, binds_text, event_line, events_text, moment_text, realm_of_script, without_due}
+use Rattle.script_journal.specs.{Event, JournalStays, JournalTellsAll, Origin, Realm, binds_text, event_line, events_text, moment_text, realm_of_script, without_due, words_of}
 use Rattle.script_journal.proofs.Running.{journal_is_a_script}
 use Rattle.scope_rules.specs.declared.types.events.Event.TheVariants as event
 
 same_line : (base : Origin) (e : Event) → event_line base (without_due e) ≡ event_line base e
-unfolding event_line
+unfolding event_line words_of
 same_line base (event.Fork actor scope label) = refl
 same_line base _ = refl
 

@@ -1,7 +1,7 @@
 -- The script with times is the script, with comments between its lines.
 use Rattle.std.proofs.Common.{[], ℕ, ◌++◌, ◌∷◌, ◌≡◌, List, None, Option, Some, codes, length, length-append, refl, slice_get, suc, zero}
-use Rattle.script_journal.specs.{Binding, Event, History, Origin, TimesAreComments, WithTimes, at_text, binds_text, decimal, ended, event_line, events_text, flat_map, line, line_of, moment_text, new_time, pair_text, pairs_text}
-use Rattle.script_journal.specs.{range_with_len, retire_behind, retire_text, script_text, time, timed_line, timed_text}
+use Rattle.script_journal.specs.{Binding, Event, Origin, TimesAreComments, WithTimes, at_text, binds_text, decimal, ended, event_line, events_text, flat_map, line, line_of, moment_text, new_time, pair_text, pairs_text}
+use Rattle.script_journal.specs.{range_with_len, retire_behind, retire_text, script_text, time, timed_line}
 use Rattle.script_journal.proofs.Lemmas.{append-nil, append_assoc}
 
 -- one text with times behind another

@@ -4,7 +4,7 @@ use Rattle.script_journal.specs.{All, Any, AwaitAll, AwaitOk, BeginClose, Cancel
 use Rattle.script_journal.specs.{OwnCancel, Policy, SuccessesAtLeast, SumAtLeast, Until, before, cancelled_at, cancelled_before, completes, completion_of, completions, deadline, direct_kind, fires, first_cancel, forking}
 use Rattle.script_journal.specs.{has_failed, has_succeeded, is_cancelled, is_task_of, joiner_fires, kind_by, meets, move_of, opening, option_and_then, option_or, outer, overdue, own, own_at, own_cancel, shifted, summand_of_end}
 use Rattle.script_journal.specs.{total_of}
-use Rattle.script_journal.proofs.Lemmas.{any_mapped, cancel_shifted, count_mapped, fun_ext, map_or_mapped, outer_inward, then_mapped}
+use Rattle.script_journal.proofs.Lemmas.{any_mapped, cancel_shifted, count_mapped, fun_ext, map_or_mapped, outer_inward, still_some, then_mapped}
 use Rattle.script_journal.proofs.{RaisedEvents.raise, RaisedEvents.raised_at, RaisedEvents.raised_before, RaisedEvents.raised_forking, RaisedEvents.raised_length, RaisedEvents.raised_moment, RaisedEvents.raised_opening}
 use Rattle.script_journal.proofs.{RaisedScopes.raised_covers, RaisedScopes.raised_joined, RaisedScopes.raised_outer, Raising.filter_raised, Raising.last_raised, Raising.raised, Raising.same_behind, Raising.up, Raising.up_forking}
 use Rattle.script_journal.proofs.{Raising.up_opening}
@@ -104,14 +104,10 @@ module _ (S K : ℕ) where
   abbrev own_by : ℕ → Option CauseKind → Option OwnCancel
   own_by i o = option_map (λ kind. record { place = i; kind = kind }) o
 
-  still_there : (o : Option Opening) → is_some (option_map (up_opening K) o) ≡ is_some o
-  still_there None = refl
-  still_there (Some x) = refl
-
   opened_raised : (h : History) (s i : ℕ) → is_some (opening (before (raise S K h) i) (S + s)) ≡ is_some (opening (before h i) s)
   opened_raised h s i =
       ap (λ (g : History). is_some (opening g (S + s))) (raised_before S K h i)
-      ∙ (ap is_some (raised_opening S K (before h i) s) ∙ still_there (opening (before h i) s))
+      ∙ (ap is_some (raised_opening S K (before h i) s) ∙ still_some (up_opening K) (opening (before h i) s))
 
   kinds_raised : (h : History) (s i : ℕ) → option_and_then (λ e. own_by i (kind_by (raise S K h) (S + s) i e)) (slice_get (raise S K h).events i) ≡ option_and_then (λ e. own_by i (kind_by h s i e)) (slice_get h.events i)
   kinds_raised h s i =
@@ -141,13 +137,9 @@ module _ (S K : ℕ) where
     raised_cancel s =
         cancel_shifted S (outer h) (outer (raise S K h)) (outer_inward L h legal) (outer_inward L (raise S K h) later) (raised_outer S K h) (own_cancel h) (own_cancel (raise S K h)) s (raised_own_cancel h)
 
-    is_still : (o : Option FirstCancel) → is_some (option_map (shifted S) o) ≡ is_some o
-    is_still None = refl
-    is_still (Some c) = refl
-
     pub raised_cancelled : (s : ℕ) → is_cancelled (raise S K h) (S + s) ≡ is_cancelled h s
     unfolding is_cancelled
-    raised_cancelled s = ap is_some (raised_cancel s) ∙ is_still (first_cancel h s)
+    raised_cancelled s = ap is_some (raised_cancel s) ∙ still_some (shifted S) (first_cancel h s)
 
     -- the place by which a scope that was opened so became cancelled
     abbrev cancelled_place : Option Opening → Option FirstCancel → Option ℕ

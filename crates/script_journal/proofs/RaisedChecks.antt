@@ -1,9 +1,9 @@
 -- What is accepted if so many scopes and tasks were numbered before is accepted without them.
-use Rattle.std.proofs.Common.{[], ℕ, ◌&&◌, ◌+◌, ◌==◌, ◌||◌, ◌∙◌, ◌∷◌, ◌≡◌, Bool, Err, List, None, Ok, Option, Some, ap, arith, cond, false, is_some, nat_le, nat_lt, not, option_map, refl, suc, sym, true, zero}
-use Rattle.script_journal.specs.{Accepts, BeginClose, Bind, Cancel, Checked, EndClose, Event, Finish, Fork, Forking, GREATEST_NUMBER, History, Join, Legal, Limits, Move, Open, Opening, Refusal, Reject, Start, Tick, Unbind}
+use Rattle.std.proofs.Common.{[], ℕ, ◌&&◌, ◌+◌, ◌==◌, ◌||◌, ◌∙◌, ◌∷◌, ◌≡◌, Bool, Err, List, Ok, Option, ap, arith, cond, false, is_some, nat_le, nat_lt, not, option_map, refl, suc, sym, true, zero}
+use Rattle.script_journal.specs.{Accepts, BeginClose, Bind, Cancel, Checked, EndClose, Event, Finish, Fork, GREATEST_NUMBER, History, Join, Legal, Limits, Move, Open, Opening, Refusal, Reject, Start, Tick, Unbind}
 use Rattle.script_journal.specs.{actor_check, check_of, checks, closing, forked_count, forking, in_closing, innermost, is_already, is_innermost, known_actor, known_scope, known_task, opened_count, opening, option_map_or}
 use Rattle.script_journal.specs.{over_load, over_scopes, over_tasks, owner_check, owns, refuse_closing, refuse_full, refuse_if, refuse_joined, row_check, scope_check, task_check, then_check}
-use Rattle.script_journal.proofs.Lemmas.{map_or_mapped, nat_tests}
+use Rattle.script_journal.proofs.Lemmas.{map_or_mapped, nat_tests, still_some}
 use Rattle.script_journal.proofs.{RaisedCancels.raised_cancelled, RaisedEvents.raise, RaisedEvents.raised_forked, RaisedEvents.raised_forking, RaisedEvents.raised_load, RaisedEvents.raised_moment, RaisedEvents.raised_opened}
 use Rattle.script_journal.proofs.{RaisedEvents.raised_opening, RaisedScopes.raised_closed, RaisedScopes.raised_closing, RaisedScopes.raised_innermost, RaisedScopes.raised_joined, RaisedScopes.raised_next_level}
 use Rattle.script_journal.proofs.{RaisedTasks.raised_bound_as_opened, RaisedTasks.raised_holds_last, RaisedTasks.raised_ready, RaisedTasks.raised_settled, RaisedTasks.raised_stack, RaisedTasks.raised_stage, Raising.raised}
@@ -34,18 +34,6 @@ refused_alike : (b c : Bool) (r : Refusal) → b ≡ c → Passes (refuse_if b r
 refused_alike b c r same = refused_if_more b c r (λ is. sym same ∙ is)
 
 module _ (S K : ℕ) where
-  still_opened : (o : Option Opening) → is_some (option_map (up_opening K) o) ≡ is_some o
-  still_opened None = refl
-  still_opened (Some x) = refl
-
-  still_forked : (o : Option Forking) → is_some (option_map (up_forking S K) o) ≡ is_some o
-  still_forked None = refl
-  still_forked (Some x) = refl
-
-  still_inner : (o : Option ℕ) → is_some (option_map (λ t. S + t) o) ≡ is_some o
-  still_inner None = refl
-  still_inner (Some x) = refl
-
   -- ---- numbers that are known
 
   not_retired : (s b : ℕ) → (nat_lt 0 (S + s) && nat_le (S + s) (S + b)) ≡ false → (nat_lt 0 s && nat_le s b) ≡ false
@@ -59,7 +47,7 @@ module _ (S K : ℕ) where
   unfolding known_scope
   scope_known h s passed =
       let both = passes_both (nat_lt 0 (S + s) && nat_le (S + s) (S + h.base.scopes)) (refuse_if (not (is_some (opening (raise S K h) (S + s)))) refusal.NoScope) passed in
-      let there : is_some (opening (raise S K h) (S + s)) ≡ is_some (opening h s) = ap is_some (raised_opening S K h s) ∙ still_opened (opening h s) in
+      let there : is_some (opening (raise S K h) (S + s)) ≡ is_some (opening h s) = ap is_some (raised_opening S K h s) ∙ still_some (up_opening K) (opening h s) in
       rw (not_retired s h.base.scopes both.0) (alike _ _ (ap (λ b. refuse_if (not b) refusal.NoScope) there) both.1)
 
   up_retired : (k b : ℕ) → (nat_lt 0 (up K k) && nat_le (up K k) (K + b)) ≡ (nat_lt 0 k && nat_le k b)
@@ -69,7 +57,7 @@ module _ (S K : ℕ) where
 
   task_same : (h : History) (k : ℕ) → task_check (raise S K h) (up K k) ≡ task_check h k
   unfolding known_task
-  task_same h k = rw (up_retired k h.base.tasks, raised_forking S K h k, still_forked (forking h k)) refl
+  task_same h k = rw (up_retired k h.base.tasks, raised_forking S K h k, still_some (up_forking S K) (forking h k)) refl
 
   module _ (L : Limits) (h : History) (legal : Legal L h) (later : Legal L (raise S K h)) where
     actor_same : (a : ℕ) → actor_check (raise S K h) (up K a) ≡ actor_check h a
@@ -155,7 +143,7 @@ module _ (S K : ℕ) where
     passes (Finish task end) =
         step _ _ _ _ (of_task task)
         (step _ _ _ _ (alike _ _ (rw (raised_stage S K L h legal later task) refl))
-        (last _ _ (alike _ _ (rw (raised_innermost S K h task, still_inner (innermost h task)) refl))))
+        (last _ _ (alike _ _ (rw (raised_innermost S K h task, still_some (λ t. S + t) (innermost h task)) refl))))
     passes (Cancel scope) =
         step _ _ _ _ (known scope)
         (step _ _ _ _ (not_closing_too scope)

@@ -80,7 +80,7 @@ module _ (h : History) where
       let some : (suc k == 0) ≡ false = grind (arith, nat_tests) in
       task_back (suc k) (checks_at (task_check h (suc k) ∷ refuse_if (not (is_running (stage h (suc k)))) refusal.WrongStage ∷ []) 0 (task_check h (suc k)) (rw some at passed) refl)
 
-  event_back : (L : Limits) (e : Event) → Accepts L h e → raised h.base.scopes h.base.tasks (renumbered h.base.scopes h.base.tasks e) ≡ e
+  event_back : (L : Limits) (e : Event) → Accepts L h e → raised h.base.scopes h.base.tasks (renumbered h.base e) ≡ e
   unfolding row_check
   event_back L (Open actor policy options) is = rw (actor_back actor (checks_at _ 0 _ is.passed refl)) refl
   event_back L (Fork actor scope label) is = rw (actor_back actor (checks_at _ 0 _ is.passed refl), scope_back scope (checks_at _ 1 _ is.passed refl)) refl
@@ -104,7 +104,7 @@ back f g (x ∷ xs) each = ap₂ (λ y ys. y ∷ ys) (each 0 x refl) (back f g x
 raised_anew : (L : Limits) (h : History) → Legal L h → raise h.base.scopes h.base.tasks (anew h) ≡ h
 unfolding Legal
 raised_anew L h legal =
-    let events = back (raised h.base.scopes h.base.tasks) (renumbered h.base.scopes h.base.tasks) h.events (λ i e at. event_back (before h i) L e (legal i e at)) in
+    let events = back (raised h.base.scopes h.base.tasks) (renumbered h.base) h.events (λ i e at. event_back (before h i) L e (legal i e at)) in
     let scopes : h.base.scopes + 0 ≡ h.base.scopes = omega arith in
     let tasks : h.base.tasks + 0 ≡ h.base.tasks = omega arith in
     rw (scopes, tasks) (ap (λ (es : List Event). record { base = h.base; events = es }) events)

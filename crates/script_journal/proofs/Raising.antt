@@ -1,8 +1,7 @@
 -- Scopes and tasks with so many others numbered before them, main still 0: events of them, and searches over these.
 use Rattle.std.proofs.Common.{[], ℕ, ◌+◌, ◌==◌, ◌∙◌, ◌∷◌, ◌≡◌, Bool, List, None, Option, Some, ap, arith, fold, map, nat_lt, option_map, refl, suc, zero}
-use Rattle.script_journal.specs.{Event, Forking, Opening, cons_option, earliest, filter_map, last_of, latest, list_any, option_or, range_with_len}
+use Rattle.script_journal.specs.{Event, Forking, Opening, cons_option, earliest, filter_map, last_of, latest, list_any, numbered, option_or, range_with_len}
 use Rattle.script_journal.proofs.Lemmas.{nat_tests}
-use Rattle.scope_rules.specs.declared.types.events.Event.TheVariants as event
 
 -- task k, or main, if so many tasks were numbered before
 unfoldable pub up : ℕ → ℕ → ℕ
@@ -28,19 +27,7 @@ pub before_behind : (n s t : ℕ) → nat_lt (n + s) (n + t) ≡ nat_lt s t
 before_behind n s t = grind (arith, nat_tests)
 
 abbrev pub raised : (scopes tasks : ℕ) → Event → Event
-raised scopes tasks (event.Open actor policy options) = event.Open (up tasks actor) policy options
-raised scopes tasks (event.Fork actor scope label) = event.Fork (up tasks actor) (scopes + scope) label
-raised scopes tasks (event.Reject task) = event.Reject (up tasks task)
-raised scopes tasks (event.Start task) = event.Start (up tasks task)
-raised scopes tasks (event.Finish task end) = event.Finish (up tasks task) end
-raised scopes tasks (event.Cancel scope) = event.Cancel (scopes + scope)
-raised scopes tasks (event.Move scope deadline) = event.Move (scopes + scope) deadline
-raised scopes tasks (event.Tick now) = event.Tick now
-raised scopes tasks (event.Bind actor pair) = event.Bind (up tasks actor) pair
-raised scopes tasks (event.Unbind actor) = event.Unbind (up tasks actor)
-raised scopes tasks (event.Join actor scope) = event.Join (up tasks actor) (scopes + scope)
-raised scopes tasks (event.BeginClose actor scope) = event.BeginClose (up tasks actor) (scopes + scope)
-raised scopes tasks (event.EndClose actor scope) = event.EndClose (up tasks actor) (scopes + scope)
+raised scopes tasks e = numbered (λ s. scopes + s) (up tasks) e
 
 abbrev pub up_opening : ℕ → Opening → Opening
 up_opening tasks o = record o { actor = up tasks o.actor }

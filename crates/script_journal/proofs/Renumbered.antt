@@ -1,29 +1,16 @@
 -- The script of a history is that of the same, if nothing was numbered before, and brings a fresh realm there.
-use Rattle.std.proofs.Common.{[], ℕ, ◌++◌, ◌-◌, ◌<◌, ◌^◌, ◌∙◌, ◌∷◌, ◌≡◌, ◌≤◌, Err, IfOk, List, Ok, Result, ap, ap₂, arith, length, map, refl, subst, suc, sym, zero}
-use Rattle.script_journal.specs.{AllFit, BaseFits, Event, Fits, HasWords, History, IsRuled, JournalBringsAnew, JournalCountsAnew, Limits, Origin, Realm, RunsTo, anew, binds_text, event_line, events_text, load, moment_text}
-use Rattle.script_journal.specs.{renumbered, script_text, without_dues}
-use Rattle.script_journal.proofs.Lemmas.{unary_clauses}
-use Rattle.script_journal.proofs.{Beginning.begun, RaisedLegal.numbers_decide_nothing, Running.runs}
+use Rattle.std.proofs.Common.{[], ℕ, ◌++◌, ◌-◌, ◌<◌, ◌^◌, ◌∙◌, ◌∷◌, ◌≡◌, ◌≤◌, Err, IfOk, List, Ok, Result, ap, ap₂, arith, length, map, refl, rules, subst, suc, sym, zero}
+use Rattle.script_journal.specs.{AllFit, BaseFits, Do, Event, Fits, HasWords, History, IsRuled, JournalBringsAnew, JournalCountsAnew, Limits, Origin, Realm, RunsTo, anew, binds_text, event_line, events_text, load, moment_text}
+use Rattle.script_journal.specs.{renumbered, script_text, spelled, without_dues}
+use Rattle.script_journal.proofs.{Beginning.begun, RaisedLegal.numbers_decide_nothing, Running.runs, Words.none_before}
 use Rattle.scope_rules.specs.declared.types.events.Event.TheVariants as event
 
 -- an event's line is that of the event counted anew
-line_anew : (h : History) (e : Event) → event_line (anew h).base (renumbered h.base.scopes h.base.tasks e) ≡ event_line h.base e
+line_anew : (h : History) (e : Event) → event_line (anew h).base (renumbered h.base e) ≡ event_line h.base e
 unfolding event_line
-line_anew h (event.Open actor policy options) = simp unary_clauses refl
-line_anew h (event.Fork actor scope label) = simp unary_clauses refl
-line_anew h (event.Reject task) = simp unary_clauses refl
-line_anew h (event.Start task) = simp unary_clauses refl
-line_anew h (event.Finish task end) = simp unary_clauses refl
-line_anew h (event.Cancel scope) = simp unary_clauses refl
-line_anew h (event.Move scope deadline) = simp unary_clauses refl
-line_anew h (event.Tick now) = refl
-line_anew h (event.Bind actor pair) = simp unary_clauses refl
-line_anew h (event.Unbind actor) = simp unary_clauses refl
-line_anew h (event.Join actor scope) = simp unary_clauses refl
-line_anew h (event.BeginClose actor scope) = simp unary_clauses refl
-line_anew h (event.EndClose actor scope) = simp unary_clauses refl
+line_anew h e = ap (λ d. spelled (Do d)) (none_before (renumbered h.base e))
 
-lines_anew : (h : History) (es : List Event) → events_text (anew h).base (map (renumbered h.base.scopes h.base.tasks) es) ≡ events_text h.base es
+lines_anew : (h : History) (es : List Event) → events_text (anew h).base (map (renumbered h.base) es) ≡ events_text h.base es
 unfolding events_text
 lines_anew h [] = refl
 lines_anew h (e ∷ es) = rw (line_anew h e) (ap (λ xs. (event_line h.base e ++ 10 ∷ []) ++ xs) (lines_anew h es))
@@ -35,31 +22,21 @@ counts_anew h = ap (λ lines. moment_text h.base.moment ++ binds_text h.base.bin
 less : (n m : ℕ) → n < 2 ^ 32 → n - m < 2 ^ 32
 less n m small = omega arith
 
-fits_anew : (scopes tasks : ℕ) (e : Event) → Fits e → Fits (renumbered scopes tasks e)
+fits_anew : (base : Origin) (e : Event) → Fits e → Fits (renumbered base e)
 unfolding HasWords
-fits_anew scopes tasks (event.Open actor policy options) is = (less actor tasks is.0, is.1, is.2)
-fits_anew scopes tasks (event.Fork actor scope label) is = (less actor tasks is.0, less scope scopes is.1, is.2)
-fits_anew scopes tasks (event.Reject task) is = less task tasks is
-fits_anew scopes tasks (event.Start task) is = less task tasks is
-fits_anew scopes tasks (event.Finish task end) is = (less task tasks is.0, is.1)
-fits_anew scopes tasks (event.Cancel scope) is = less scope scopes is
-fits_anew scopes tasks (event.Move scope deadline) is = (less scope scopes is.0, is.1)
-fits_anew scopes tasks (event.Tick now) is = is
-fits_anew scopes tasks (event.Bind actor pair) is = (less actor tasks is.0, is.1)
-fits_anew scopes tasks (event.Unbind actor) is = less actor tasks is
-fits_anew scopes tasks (event.Join actor scope) is = (less actor tasks is.0, less scope scopes is.1)
-fits_anew scopes tasks (event.BeginClose actor scope) is = (less actor tasks is.0, less scope scopes is.1)
-fits_anew scopes tasks (event.EndClose actor scope) is = (less actor tasks is.0, less scope scopes is.1)
+fits_anew base (event.Finish task (Ok value)) is = search (rules, less)
+fits_anew base (event.Finish task (Err fault)) is = search (rules, less)
+fits_anew base _ is = search (rules, less)
 
-all_fit_anew : (scopes tasks : ℕ) (es : List Event) → AllFit es → AllFit (map (renumbered scopes tasks) es)
-all_fit_anew scopes tasks [] fit i d at = absurd cc
-all_fit_anew scopes tasks (e ∷ es) fit zero d at = let same : renumbered scopes tasks e ≡ d = cc in subst Fits same (fits_anew scopes tasks e (fit 0 e refl))
-all_fit_anew scopes tasks (e ∷ es) fit (suc i) d at = all_fit_anew scopes tasks es (λ j c there. fit (suc j) c there) i d at
+all_fit_anew : (base : Origin) (es : List Event) → AllFit es → AllFit (map (renumbered base) es)
+all_fit_anew base [] fit i d at = absurd cc
+all_fit_anew base (e ∷ es) fit zero d at = let same : renumbered base e ≡ d = cc in subst Fits same (fits_anew base e (fit 0 e refl))
+all_fit_anew base (e ∷ es) fit (suc i) d at = all_fit_anew base es (λ j c there. fit (suc j) c there) i d at
 
 pub brings_anew : JournalBringsAnew
 brings_anew L h legal base fit =
     rw (counts_anew h)
-    (runs h.base.moment h.base.binds L (anew h).events (begun L h.base base) (numbers_decide_nothing L h legal) (all_fit_anew h.base.scopes h.base.tasks h.events fit))
+    (runs h.base.moment h.base.binds L (anew h).events (begun L h.base base) (numbers_decide_nothing L h legal) (all_fit_anew h.base h.events fit))
 
 pairs_within : (realm : Realm) → load realm.history ≤ realm.limits.load → length realm.history.base.binds ≤ realm.limits.load
 unfolding load

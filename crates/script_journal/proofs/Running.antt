@@ -6,7 +6,6 @@ use Rattle.script_journal.specs.{without_dues}
 use Rattle.script_journal.proofs.Lemmas.{accepts_without, fun_ext, length-map, take-append_seam, without_followed}
 use Rattle.script_journal.proofs.{Accepted.accepted_adds, Accepted.accepted_unrefused, Accepted.ruled, Bases.from, Bases.unnumbered, PlayedLines.all_ended, PlayedLines.all_lines, PlayedLines.binds_said, PlayedLines.line_count}
 use Rattle.script_journal.proofs.{PlayedLines.moment_said, Words.line_says_event}
-use Rattle.scope_rules.specs.declared.types.events.Event.TheVariants as event
 
 -- ---- lines in turn
 
@@ -64,47 +63,28 @@ module _ (L : Limits) (base : Origin) (all : List Event) (legal : Legal L (from 
   says : (done : List Event) (e : Event) (es : List Event) → done ++ e ∷ es ≡ all → line_said (event_line the_start e) ≡ Command (Do (without_due e))
   says done e es whole = line_says_event e (fit (length done) e (at_seam done e es whole))
 
-  -- what the line of the next event leaves
-  left_by : (done : List Event) (e : Event) (es : List Event) → done ++ e ∷ es ≡ all
-      → realm_after_line (ruled L (without_dues (from base done))) (line_said (event_line the_start e)) ≡ ruled L (without_dues (from base (done ++ e ∷ [])))
-  unfolding realm_after_line
-  left_by done e es whole =
-      rw (says done e es whole)
-      (accepted_adds L (without_dues (from base done)) (without_due e) (accepts_without L (from base done) e (accepted done e es whole))
-      ∙ ap (ruled L) (without_followed (from base done) e))
-
-  left_after : (done es : List Event) → done ++ es ≡ all → realm_after_lines (ruled L (without_dues (from base done))) (map (event_line the_start) es) ≡ ruled L (without_dues (from base all))
-  unfolding realm_after_lines
-  left_after done [] whole = ap (λ (xs : List Event). ruled L (without_dues (from base xs))) (sym (append-nil done) ∙ whole)
-  left_after done (e ∷ es) whole =
-      ap (λ (realm : Realm). realm_after_lines realm (map (event_line the_start) es)) (left_by done e es whole)
-      ∙ left_after (done ++ e ∷ []) es (put_behind done e es all whole)
-
-  -- no line is refused
-  counted_by : (done : List Event) (e : Event) (es : List Event) → done ++ e ∷ es ≡ all
-      → tally_after_line no_refusals (ruled L (without_dues (from base done))) (line_said (event_line the_start e)) ≡ no_refusals
-  unfolding tally_after_line
-  counted_by done e es whole =
-      rw (says done e es whole, accepted_unrefused L (without_dues (from base done)) (without_due e) (accepts_without L (from base done) e (accepted done e es whole))) refl
-
-  counted_after : (done es : List Event) → done ++ es ≡ all → tally_after_lines no_refusals (ruled L (without_dues (from base done))) (map (event_line the_start) es) ≡ no_refusals
-  unfolding tally_after_lines
-  counted_after done [] whole = refl
-  counted_after done (e ∷ es) whole =
-      ap₂ (λ tally (realm : Realm). tally_after_lines tally realm (map (event_line the_start) es)) (counted_by done e es whole) (left_by done e es whole)
-      ∙ counted_after (done ++ e ∷ []) es (put_behind done e es all whole)
+  -- the lines of the events that are left bring the realm from those before them to all
+  played_after : (done es : List Event) → done ++ es ≡ all → Plays (ruled L (without_dues (from base done))) (ruled L (without_dues (from base all))) (map (event_line the_start) es)
+  played_after done [] whole =
+      subst (λ (xs : List Event). Plays (ruled L (without_dues (from base done))) (ruled L (without_dues (from base xs))) []) (sym (append-nil done) ∙ whole) (none_played (ruled L (without_dues (from base done))))
+  played_after done (e ∷ es) whole =
+      let old = without_dues (from base done) in
+      let is = accepts_without L (from base done) e (accepted done e es whole) in
+      both_played (ruled L old) (ruled L (without_dues (from base (done ++ e ∷ [])))) (ruled L (without_dues (from base all))) (event_line the_start e ∷ []) (map (event_line the_start) es)
+      (line_played (ruled L old) (ruled L (without_dues (from base (done ++ e ∷ [])))) (event_line the_start e) (Do (without_due e)) (says done e es whole)
+      (accepted_adds L old (without_due e) is ∙ ap (ruled L) (without_followed (from base done) e)) (accepted_unrefused L old (without_due e) is))
+      (played_after (done ++ e ∷ []) es (put_behind done e es all whole))
 
   -- the lines of the events bring a realm that begins with the base to the history
   pub events_played : Plays (starting L base) (ruled L (without_dues (from base all))) (map (event_line the_start) all)
-  events_played = record { left = left_after [] all refl; unrefused = counted_after [] all refl }
+  events_played = played_after [] all refl
 
 -- ---- the whole script
 
 module _ (moment : ℕ) (pairs : List Binding) where
   same_line : (e : Event) → event_line (unnumbered moment pairs) e ≡ event_line the_start e
   unfolding event_line
-  same_line (event.Tick now) = refl
-  same_line _ = refl
+  same_line e = refl
 
   module _ (L : Limits) (es : List Event)
       (begun : Plays (starting L the_start) (starting L (unnumbered moment pairs)) (moment_said moment ++ binds_said pairs))
@@ -112,8 +92,7 @@ module _ (moment : ℕ) (pairs : List Binding) where
     lines : ended_lines [] (script_text (from (unnumbered moment pairs) es)) ≡ (moment_said moment ++ binds_said pairs) ++ map (event_line the_start) es
     lines =
         all_lines (from (unnumbered moment pairs) es)
-        ∙ (ap (λ (line : Event → List ℕ). moment_said moment ++ (binds_said pairs ++ map line es)) (fun_ext same_line)
-        ∙ sym (append_assoc (moment_said moment) (binds_said pairs) (map (event_line the_start) es)))
+        ∙ ap (λ (line : Event → List ℕ). (moment_said moment ++ binds_said pairs) ++ map line es) (fun_ext same_line)
 
     played : Plays (starting L the_start) (ruled L (without_dues (from (unnumbered moment pairs) es))) ((moment_said moment ++ binds_said pairs) ++ map (event_line the_start) es)
     played = both_played (starting L the_start) (starting L (unnumbered moment pairs)) (ruled L (without_dues (from (unnumbered moment pairs) es))) (moment_said moment ++ binds_said pairs) (map (event_line the_start) es) begun (events_played L (unnumbered moment pairs) es legal fit)

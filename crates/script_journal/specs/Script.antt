@@ -1,7 +1,7 @@
 -- The script of a history: the commands that a fresh realm is told to come to it. Scopes and tasks are counted from the
 -- history's base on, as a fresh realm counts them; main stays 0.
 use Rattle.std.specs.Prelude.{[], ℕ, ◌++◌, ◌-◌, ◌∷◌, List, codes, suc, zero}
-use Rattle.script_journal.specs.Words.{Binding, Event, History, Origin, decimal, end_line, flat_map, joiner_text, move_line, options_text, text_of, value_text}
+use Rattle.script_journal.specs.Words.{Binding, Do, Event, History, Origin, decimal, flat_map, spelled, text_of, value_text}
 use Rattle.scope_rules.specs.declared.types.events.Event.TheVariants as event
 
 -- scope s and task k, as they are counted from the base on; an actor is counted as a task, so that main is 0
@@ -11,12 +11,25 @@ scope_since base s = s - base.scopes
 abbrev pub task_since : Origin → ℕ → ℕ
 task_since base k = k - base.tasks
 
--- a command of an actor, by its word: `WORD A`, and `WORD A S`
-abbrev pub by_actor : List ℕ → Origin → ℕ → List ℕ
-by_actor word base actor = word ++ codes " " ++ decimal (task_since base actor)
+-- the event with other numbers of its scope, and of its task or actor
+abbrev pub numbered : (ℕ → ℕ) → (ℕ → ℕ) → Event → Event
+numbered s k (event.Open actor policy options) = event.Open (k actor) policy options
+numbered s k (event.Fork actor scope label) = event.Fork (k actor) (s scope) label
+numbered s k (event.Reject task) = event.Reject (k task)
+numbered s k (event.Start task) = event.Start (k task)
+numbered s k (event.Finish task end) = event.Finish (k task) end
+numbered s k (event.Cancel scope) = event.Cancel (s scope)
+numbered s k (event.Move scope deadline) = event.Move (s scope) deadline
+numbered s k (event.Tick now) = event.Tick now
+numbered s k (event.Bind actor pair) = event.Bind (k actor) pair
+numbered s k (event.Unbind actor) = event.Unbind (k actor)
+numbered s k (event.Join actor scope) = event.Join (k actor) (s scope)
+numbered s k (event.BeginClose actor scope) = event.BeginClose (k actor) (s scope)
+numbered s k (event.EndClose actor scope) = event.EndClose (k actor) (s scope)
 
-abbrev pub in_scope : List ℕ → Origin → ℕ → ℕ → List ℕ
-in_scope word base actor scope = by_actor word base actor ++ codes " " ++ decimal (scope_since base scope)
+-- the event with its scope, and its task or actor, as they are counted from the base on
+abbrev pub renumbered : Origin → Event → Event
+renumbered base e = numbered (scope_since base) (task_since base) e
 
 -- `K VALUE`
 abbrev pub pair_text : Binding → List ℕ
@@ -24,19 +37,7 @@ pair_text pair = text_of pair.key ++ codes " " ++ value_text pair.value
 
 -- the command of an event
 unfoldable pub event_line : Origin → Event → List ℕ
-event_line base (event.Open actor policy options) = by_actor (codes "open") base actor ++ codes " " ++ joiner_text policy ++ options_text options
-event_line base (event.Fork actor scope label) = in_scope (codes "fork") base actor scope ++ codes " " ++ text_of label.name
-event_line base (event.Reject task) = by_actor (codes "reject") base task
-event_line base (event.Start task) = by_actor (codes "start") base task
-event_line base (event.Finish task end) = end_line (task_since base task) end
-event_line base (event.Cancel scope) = codes "cancel " ++ decimal (scope_since base scope)
-event_line base (event.Move scope deadline) = move_line (scope_since base scope) deadline
-event_line base (event.Tick now) = codes "tick " ++ decimal now
-event_line base (event.Bind actor pair) = by_actor (codes "bind") base actor ++ codes " " ++ pair_text pair
-event_line base (event.Unbind actor) = by_actor (codes "unbind") base actor
-event_line base (event.Join actor scope) = in_scope (codes "join") base actor scope
-event_line base (event.BeginClose actor scope) = in_scope (codes "close") base actor scope
-event_line base (event.EndClose actor scope) = in_scope (codes "closed") base actor scope
+event_line base e = spelled (Do (renumbered base e))
 
 -- a retirement, ended by a line feed: it gives back the load of the lines before it
 abbrev pub retire_text : List ℕ

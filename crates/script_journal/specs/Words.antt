@@ -1,11 +1,13 @@
 -- What the definitions of this crate take from the libraries below and from the types of its code, from one place.
-pub use Rattle.scope_log.specs.LogText.{end_line, expiry_text, joiner_text, limit_text, move_line, options_text, shield_text}
+pub use Rattle.scope_log.specs.LogText.{end_line, joiner_text, options_text}
 pub use Rattle.scope_rules.specs.Checks.{Checked, actor_check, owner_check, refuse_closing, refuse_full, refuse_if, refuse_joined, scope_check, task_check}
 pub use Rattle.scope_rules.specs.History.{History, before, followed, forked_count, forking_of, is_fork, is_open, numbered_at, opened_count, opening_of, task_numbers, tick_of}
 pub use Rattle.scope_rules.specs.Scopes.{around, begins_closing, closing_at, ends, forked_in, have_one_opener, joins, unclosed_of}
 pub use Rattle.scope_rules.specs.declared.types.events.Event.TheVariants.{BeginClose, Bind, Cancel, EndClose, Finish, Fork, Join, Move, Open, Reject, Start, Tick, Unbind}
-pub use Rattle.script_words.specs.Spelling.{IsEnd, IsMoment, IsPolicy, IsSmall, IsValue, option_words, policy_word, value_word}
+pub use Rattle.script_words.specs.Rows.{IsMoment, IsPolicy, IsSmall, IsValue, option_words, policy_word}
+pub use Rattle.script_words.specs.{Spelling.spelled, declared.rows.OpenWord.OpenWord}
 pub use Rattle.std.specs.{Fmt.HasWritten, Fmt.IsPlainFormatter, Fmt.decimal, List.cons_option, List.filter_map, List.flat_map, List.join_with_byte, List.list_any, List.range_with_len, Option.option_and_then, Option.option_map_or}
+pub use Rattle.scope_rules.specs.Ends.{EndValue}
 pub use Rattle.std.specs.{Option.option_or, Prelude.Some}
 pub use Rattle.scope_checks.specs.Ruled.{IsRuled}
 pub use Rattle.scope_log.specs.Dues.{without_due, without_dues}
@@ -14,7 +16,7 @@ pub use Rattle.scope_rules.specs.{Completions.completion_of, Joining.has_failed,
 pub use Rattle.scope_rules.specs.{Origin.Origin, Origin.the_start, Replies.Realm, Replies.starting, Table.check_of, Table.is_already, Tasks.finishes, Tasks.is_running, Tasks.is_unsettled, Tasks.rejects, Tasks.starts}
 pub use Rattle.scope_rules.specs.{Texts.value_text}
 pub use Rattle.scope_rules.specs.declared.types.{answers.CauseKind.CauseKind, answers.CauseKind.TheVariants.Close, answers.CauseKind.TheVariants.Deadline, answers.CauseKind.TheVariants.Joiner, answers.Stage.TheVariants.Never}
-pub use Rattle.scope_rules.specs.declared.types.{capacity.Limits.Limits, capacity.TheConstants.GREATEST_NUMBER, events.Binding.Binding, events.Event.Event, events.Expiry.Expiry, events.Expiry.TheVariants.Fail}
+pub use Rattle.scope_rules.specs.declared.types.{capacity.Limits.Limits, capacity.TheConstants.GREATEST_NUMBER, events.Binding.Binding, events.Event.Event, events.Expiry.Expiry, events.Expiry.TheVariants.Fail, events.Options.Options, values.Label.Label}
 pub use Rattle.scope_rules.specs.declared.types.{events.Expiry.TheVariants.MoveOn, joiners.Policy.Policy, joiners.Policy.TheVariants.All, joiners.Policy.TheVariants.Any, joiners.Policy.TheVariants.AwaitAll}
 pub use Rattle.scope_rules.specs.declared.types.{joiners.Policy.TheVariants.AwaitOk, joiners.Policy.TheVariants.Until, joiners.Rule.TheVariants.FailuresAtLeast, joiners.Rule.TheVariants.SuccessesAtLeast}
 pub use Rattle.scope_rules.specs.declared.types.{joiners.Rule.TheVariants.SumAtLeast, outcomes.Outcome.Outcome, records.FirstCancel.FirstCancel, records.Forking.Forking, records.Opening.Opening, records.OwnCancel.OwnCancel}

@@ -1,9 +1,9 @@
 //! The numbers of events and of a base fit their types, so that a script can say them.
 
 ghost use Rattle.std.specs.Prelude.{ℕ, ◌≡◌, ◌≤◌, Some, length, slice_get};
-ghost use Rattle.script_journal.specs.{AllFit, BaseFits, Binding, Fits, IsEnd, IsMoment, IsPolicy, IsSmall, IsValue};
+ghost use Rattle.script_journal.specs.{AllFit, BaseFits, Binding, Fits, IsMoment, IsPolicy, IsSmall, IsValue};
 
-use scope_rules::{Base, Binding, End, Event, Limits, Policy, Rule, Value};
+use scope_rules::{Base, Binding, Event, Limits, Policy, Rule, Value};
 
 /// A number of 32 bits.
 fn small_fits(_number: u32)
@@ -22,15 +22,6 @@ fn value_fits(value: Value)
     ensures { IsValue value }
 {
     if let Value::Num(_number) = value {}
-}
-
-/// How a task ended.
-fn end_fits(end: End)
-    ensures { IsEnd end }
-{
-    if let Ok(value) = end {
-        value_fits(value);
-    }
 }
 
 /// A joiner.
@@ -60,7 +51,14 @@ fn event_fits(event: Event)
             policy_fits(policy);
             moment_fits(options.deadline);
         }
-        Event::Finish { task: _, end } => end_fits(end),
+        Event::Finish {
+            task: _task,
+            end: Ok(value),
+        } => value_fits(value),
+        Event::Finish {
+            task: _task,
+            end: Err(_fault),
+        } => {}
         Event::Move { scope: _, deadline } => moment_fits(deadline),
         Event::Bind { actor: _, binding } => value_fits(binding.value),
         Event::Fork {
@@ -68,20 +66,19 @@ fn event_fits(event: Event)
             scope: _s,
             label: _l,
         } => {}
-        Event::Reject { task: _task } => {}
-        Event::Start { task: _task } => {}
+        Event::Reject { task: _task } | Event::Start { task: _task } => {}
         Event::Cancel { scope: _s } => {}
         Event::Tick { now: _now } => {}
         Event::Unbind { actor: _a } => {}
         Event::Join {
             actor: _a,
             scope: _s,
-        } => {}
-        Event::BeginClose {
+        }
+        | Event::BeginClose {
             actor: _a,
             scope: _s,
-        } => {}
-        Event::EndClose {
+        }
+        | Event::EndClose {
             actor: _a,
             scope: _s,
         } => {}

@@ -47,7 +47,7 @@ impl ShownEvent<'_> {
 impl fmt::Display for ShownEvent<'_> {
     ghost output = { λ e. Some (event_line e.base.now e.event) };
 
-    #[tactic(auto, unfolding(crate::specs::Script::event_line))]
+    #[tactic(auto, using(crate::proofs::Words::open_said, crate::proofs::Words::fork_said, crate::proofs::Words::end_said, crate::proofs::Words::pair_said, crate::proofs::Words::two_said), unfolding(crate::specs::Script::event_line, script_words::specs::Spelling::words_of))]
     fn fmt<W: fmt::Write>(&self, f: &mut fmt::Formatter<W>) -> fmt::Result {
         match self.event {
             Event::Open {

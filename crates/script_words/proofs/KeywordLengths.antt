@@ -1,10 +1,7 @@
 -- The keyword of a word, by the words of its length alone.
-use Rattle.std.proofs.Common.{[], ℕ, ◌&&◌, ◌∙◌, ◌∷◌, ◌≡◌, ◌≢◌, Bool, List, None, arith, codes, false, length, nat_eq, nat_lt, refl, sym, true}
-use Rattle.script_words.specs.{Keyword, bytes_eq, filter, keyword_beside, keyword_said, list_all}
+use Rattle.std.proofs.Common.{[], ℕ, ◌&&◌, ◌∷◌, ◌≡◌, ◌≢◌, Bool, List, None, arith, false, length, nat_eq, nat_lt, refl, sym, true}
+use Rattle.script_words.specs.{Keyword, bytes_eq, filter, keyword_beside, keyword_said, list_all, worded}
 use Rattle.script_words.proofs.Lemmas.{and_parts, bytes_eq-Decides, nat_tests}
-use Rattle.script_words.specs.declared.keywords.Keyword.TheVariants as keyword
-use Rattle.script_words.specs.declared.keywords.OneNumber.TheVariants as one
-use Rattle.script_words.specs.declared.keywords.TwoNumbers.TheVariants as two
 
 -- the rows with words of this length
 abbrev pub of_length : ℕ → List (List ℕ × Keyword) → List (List ℕ × Keyword)
@@ -24,26 +21,9 @@ skip : (word : List ℕ) (rows : List (List ℕ × Keyword)) → keyword_beside 
 skip word [] = refl
 skip word (row ∷ rows) = skip_at word row rows (nat_eq (length row.0) (length word)) refl (skip word rows)
 
--- each word and its keyword
-abbrev pub all_words : List (List ℕ × Keyword)
-all_words =
-    (codes "ok", keyword.Succeed) ∷ (codes "start", keyword.OneNumber one.Start) ∷ (codes "fork", keyword.Fork)
-    ∷ (codes "tick", keyword.Tick) ∷ (codes "open", keyword.Open) ∷ (codes "counts", keyword.OneNumber one.Counts)
-    ∷ (codes "state", keyword.OneNumber one.State) ∷ (codes "cause", keyword.OneNumber one.Cause)
-    ∷ (codes "join", keyword.TwoNumbers two.Join) ∷ (codes "close", keyword.TwoNumbers two.Close)
-    ∷ (codes "closed", keyword.TwoNumbers two.Closed) ∷ (codes "cancel", keyword.OneNumber one.Cancel)
-    ∷ (codes "bind", keyword.Bind) ∷ (codes "get", keyword.Get) ∷ (codes "fail", keyword.Fail)
-    ∷ (codes "stage", keyword.OneNumber one.Stage) ∷ (codes "result", keyword.TwoNumbers two.ResultOf)
-    ∷ (codes "fault", keyword.TwoNumbers two.FaultOf) ∷ (codes "until", keyword.OneNumber one.Until)
-    ∷ (codes "move", keyword.Move) ∷ (codes "unbind", keyword.OneNumber one.Unbind)
-    ∷ (codes "reject", keyword.OneNumber one.Reject) ∷ (codes "retire", keyword.OneNumber one.Retire) ∷ []
-
-by_table : (word : List ℕ) → keyword_beside all_words word ≡ keyword_said word
+pub said_by_length : (word : List ℕ) (n : ℕ) → length word ≡ n → keyword_beside (of_length n worded) word ≡ keyword_said word
 unfolding keyword_said
-by_table word = refl
-
-pub said_by_length : (word : List ℕ) (n : ℕ) → length word ≡ n → keyword_beside (of_length n all_words) word ≡ keyword_said word
-said_by_length word n is = rw (sym is) (skip word all_words ∙ by_table word)
+said_by_length word n is = rw (sym is) (skip word worded)
 
 -- from two bytes to six
 abbrev pub is_within : ℕ → Bool
@@ -63,6 +43,7 @@ none_beside word (row ∷ rows) inside outside =
     none_at word row rows parts.0 outside (none_beside word rows parts.1 outside)
 
 pub said_of_no_length : (word : List ℕ) → length word ≢ 2 → length word ≢ 3 → length word ≢ 4 → length word ≢ 5 → length word ≢ 6 → None ≡ keyword_said word
+unfolding keyword_said
 said_of_no_length word two three four five six =
     let outside : is_within (length word) ≡ false = grind (arith, nat_tests) in
-    sym (none_beside word all_words refl outside) ∙ by_table word
+    sym (none_beside word worded refl outside)

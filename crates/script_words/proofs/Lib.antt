@@ -5,7 +5,6 @@ pub mod FieldSteps
 pub mod Numerals
 pub mod NumberFields
 pub mod DigitsAhead
-pub mod NumberForms
 pub mod OpeningSteps
 pub mod Printed
 pub mod PrintedIntegers
@@ -16,4 +15,6 @@ pub mod PlainWords
 pub mod SpelledLines
 mod PrintableLines
 pub mod PrintableText
+pub mod SpelledText
+pub mod Called
 mod Lemmas

@@ -1,8 +1,7 @@
 -- The words of a command are fields of at most 30 bytes.
 use Rattle.std.proofs.Common.{[], ℕ, ℤ, ◌++◌, ◌+◌, ◌<◌, ◌==◌, ◌^◌, ◌∙◌, ◌∷◌, ◌≡◌, ◌≤◌, Bool, List, arith, codes, false, length, length-append, nat_le, negsuc, not, pos, refl, suc, true}
-use Rattle.scope_rules.specs.declared.types.joiners.Policy.TheVariants.{All}
-use Rattle.script_words.specs.{Any, AwaitAll, AwaitOk, FailuresAtLeast, IsPolicy, IsValue, Name, Num, Policy, SuccessesAtLeast, SumAtLeast, Text, Until, Value, decimal, is_ascii_digit, is_field, is_inner, is_name, is_space}
-use Rattle.script_words.specs.{list_all, mag, policy_word, signed_decimal, text_of, value_word}
+use Rattle.script_words.specs.{FailuresAtLeast, IsPolicy, IsValue, Name, Num, Policy, SuccessesAtLeast, SumAtLeast, Text, Until, Value, decimal, is_ascii_digit, is_field, is_inner, is_name, is_space}
+use Rattle.script_words.specs.{list_all, mag, policy_word, signed_decimal, text_of, value_text}
 use Rattle.script_words.proofs.Lemmas.{decimal_nonempty, digits_decimal, length-decimal-le, length_signed_le, list_all-append, nat_tests}
 use Rattle.script_words.proofs.{JoinedFields.has_no_space, JoinedFields.is_word, Numerals.by_digits, SpelledWords.named_text}
 
@@ -101,15 +100,11 @@ signed_is_word : (z : ℤ) → mag z < 2 ^ 63 → is_word (signed_decimal z) ≡
 signed_is_word (pos n) fits = number_is_word n (omega (arith, fits))
 signed_is_word (negsuc n) fits = prefixed 45 [] (decimal (suc n)) refl (digits_plain (suc n) (omega (arith, fits))) (omega (arith, digits_short (suc n) (omega (arith, fits))))
 
-pub value_is_word : (value : Value) → IsValue value → is_word (value_word value) ≡ true
+pub value_is_word : (value : Value) → IsValue value → is_word (value_text value) ≡ true
 value_is_word (Num number) fits = signed_is_word number fits
 value_is_word (Text name) fits = name_is_word name
 
 pub policy_is_word : (policy : Policy) → IsPolicy policy → is_word (policy_word policy) ≡ true
-policy_is_word All fits = refl
-policy_is_word Any fits = refl
-policy_is_word AwaitAll fits = refl
-policy_is_word AwaitOk fits = refl
 policy_is_word (Until (FailuresAtLeast count)) fits =
     let small : count < 2 ^ 64 = omega (arith, fits) in
     let len : length (decimal count) ≤ 10 = length-decimal-le 10 count (omega arith) (omega (arith, fits)) small in
@@ -120,6 +115,7 @@ policy_is_word (Until (SuccessesAtLeast count)) fits =
     prefixed 117 (codes "ntil:ok:") (decimal count) refl (digits_plain count small) (omega (arith, len))
 policy_is_word (Until (SumAtLeast sum)) fits =
     prefixed 117 (codes "ntil:sum:") (signed_decimal sum) refl (signed_plain sum fits) (omega (arith, signed_short sum fits))
+policy_is_word _ fits = refl
 
 pub deadline_is_word : (moment : ℕ) → moment < 2 ^ 64 → is_word (codes "deadline=" ++ decimal moment) ≡ true
 deadline_is_word moment fits =

@@ -1,9 +1,9 @@
 -- The line of each reply is printable.
 use Rattle.std.proofs.Common.{◌++◌, List, None, Option, Some, codes, refl}
-use Rattle.script_words.specs.{Cause, CauseKind, Counts, Effective, ForkReply, LinesArePrintable, Outcome, Refusal, Stage, State, TaskState, TaskValue, Value, Verdict, cause_line, closed_line, counts_line, end_text, kind_word}
-use Rattle.script_words.specs.{line_of, outcome_text, reply_text, stage_word, state_word, states_text, task_line, task_state_text, task_value_text, until_line, value_text, values_text, word_of}
+use Rattle.script_words.specs.{Cause, CauseKind, Counts, Effective, ForkReply, LinesArePrintable, Outcome, Refusal, Stage, State, TaskState, TaskValue, Verdict, cause_line, closed_line, counts_line, end_text, kind_word}
+use Rattle.script_words.specs.{line_of, outcome_text, reply_text, stage_word, state_word, states_text, task_line, task_state_text, task_value_text, until_line, values_text, word_of}
 use Rattle.script_words.proofs.Lemmas.{list_all-append}
-use Rattle.script_words.proofs.PrintableText.{Shows, decimal_shows, each_shows, name_shows, signed_shows}
+use Rattle.script_words.proofs.PrintableText.{Shows, decimal_shows, each_shows, name_shows, value_shows}
 use Rattle.scope_rules.specs.declared.types.answers.CauseKind.TheVariants as kind
 use Rattle.scope_rules.specs.declared.types.answers.Effective.TheVariants as effective
 use Rattle.scope_rules.specs.declared.types.answers.ForkReply.TheVariants as fork
@@ -12,12 +12,7 @@ use Rattle.scope_rules.specs.declared.types.answers.State.TheVariants as state
 use Rattle.scope_rules.specs.declared.types.answers.Verdict.TheVariants as verdict
 use Rattle.scope_rules.specs.declared.types.outcomes.Outcome.TheVariants as outcome
 use Rattle.scope_rules.specs.declared.types.refusals.Refusal.TheVariants as refusal
-use Rattle.scope_rules.specs.declared.types.values.Value.TheVariants as value
 use Rattle.script_words.specs.declared.reply.Reply.TheVariants as reply
-
-value_shows : (v : Value) → Shows (value_text v)
-value_shows (value.Num number) = signed_shows number
-value_shows (value.Text name) = name_shows name
 
 end_shows : (s : State) → Shows (end_text s)
 end_shows state.Unavailable = refl
@@ -42,13 +37,11 @@ outcome_shows : (o : Outcome) → Shows (outcome_text o)
 unfolding outcome_text
 outcome_shows (outcome.All values) = values_show values
 outcome_shows (outcome.Any task value) = simp (list_all-append, decimal_shows, value_shows)
-outcome_shows outcome.Empty = refl
-outcome_shows outcome.Done = refl
 outcome_shows (outcome.Failed task fault) = simp (list_all-append, decimal_shows, name_shows)
 outcome_shows (outcome.List states) = states_show states
-outcome_shows outcome.Timeout = refl
 outcome_shows (outcome.Partial states) = states_show states
 outcome_shows (outcome.Cancelled scope) = decimal_shows scope
+outcome_shows _ = refl
 
 task_shows : (t : ForkReply) → Shows (task_line t)
 task_shows (fork.Thread task) = simp (list_all-append, decimal_shows)
@@ -56,25 +49,19 @@ task_shows (fork.Never task) = simp (list_all-append, decimal_shows)
 
 closed_shows : (v : Verdict) → Shows (closed_line v)
 closed_shows verdict.Plain = refl
-closed_shows verdict.NotJoined = refl
-closed_shows verdict.Violated = refl
+closed_shows _ = refl
 
 state_shows : (s : State) → Shows (state_word s)
 state_shows state.Unavailable = refl
-state_shows (state.Success value) = refl
-state_shows (state.Failed fault) = refl
+state_shows _ = refl
 
 stage_shows : (s : Stage) → Shows (stage_word s)
 stage_shows stage.Never = refl
-stage_shows stage.Waiting = refl
-stage_shows stage.Running = refl
-stage_shows stage.Finished = refl
+stage_shows _ = refl
 
 kind_shows : (k : CauseKind) → Shows (kind_word k)
 kind_shows kind.Call = refl
-kind_shows kind.Close = refl
-kind_shows kind.Joiner = refl
-kind_shows kind.Deadline = refl
+kind_shows _ = refl
 
 cause_shows : (c : Option Cause) → Shows (cause_line c)
 cause_shows None = refl
@@ -90,25 +77,7 @@ counts_show c = simp (list_all-append, decimal_shows)
 
 word_shows : (r : Refusal) → Shows (word_of r)
 word_shows refusal.NoScope = refl
-word_shows refusal.NotOwner = refl
-word_shows refusal.Closed = refl
-word_shows refusal.AlreadyJoined = refl
-word_shows refusal.NotJoined = refl
-word_shows refusal.Structure = refl
-word_shows refusal.NoTask = refl
-word_shows refusal.WrongStage = refl
-word_shows refusal.ClockBack = refl
-word_shows refusal.TooMany = refl
-word_shows refusal.NotReady = refl
-word_shows refusal.NotBound = refl
-word_shows refusal.Unavailable = refl
-word_shows refusal.NotSuccess = refl
-word_shows refusal.NotFailed = refl
-word_shows refusal.Rejected = refl
-word_shows refusal.Memory = refl
-word_shows refusal.BadWord = refl
-word_shows refusal.TooDeep = refl
-word_shows refusal.Retired = refl
+word_shows _ = refl
 
 refusal_shows : (r : Refusal) → Shows (line_of r)
 refusal_shows r = simp (list_all-append, decimal_shows, word_shows)
@@ -117,17 +86,8 @@ pub lines_are_printable : LinesArePrintable
 unfolding reply_text
 lines_are_printable (reply.Scope scope) = decimal_shows scope
 lines_are_printable (reply.Task task) = task_shows task
-lines_are_printable reply.Rejected = refl
-lines_are_printable reply.Started = refl
-lines_are_printable reply.Finished = refl
-lines_are_printable reply.Cancelled = refl
-lines_are_printable reply.Already = refl
-lines_are_printable reply.Moved = refl
 lines_are_printable (reply.Moment moment) = decimal_shows moment
-lines_are_printable reply.Bound = refl
-lines_are_printable reply.Unbound = refl
 lines_are_printable (reply.Outcome outcome) = outcome_shows outcome
-lines_are_printable reply.Closing = refl
 lines_are_printable (reply.Closed verdict) = closed_shows verdict
 lines_are_printable (reply.Retired scopes tasks) = simp (list_all-append, decimal_shows)
 lines_are_printable (reply.State state) = state_shows state
@@ -138,3 +98,4 @@ lines_are_printable (reply.Cause cause) = cause_shows cause
 lines_are_printable (reply.Until until) = until_shows until
 lines_are_printable (reply.Counts counts) = counts_show counts
 lines_are_printable (reply.Refused refusal) = refusal_shows refusal
+lines_are_printable _ = refl

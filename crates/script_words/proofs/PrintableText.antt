@@ -1,6 +1,6 @@
 -- The parts of a line are printable, and so is each line.
 use Rattle.std.proofs.Common.{[], ℕ, ℤ, ◌%◌, ◌++◌, ◌/◌, ◌<◌, ◌==◌, ◌∷◌, ◌≡◌, List, arith, cond, false, negsuc, pos, refl, suc, take, true, zero}
-use Rattle.script_words.specs.{Name, both_true, decimal, digit_glyph, digits, digits_onto, flat_map, is_inner, is_name, is_printable, is_stored, list_all, signed_decimal, text_of}
+use Rattle.script_words.specs.{Name, Num, Text, Value, both_true, decimal, digit_glyph, digits, digits_onto, flat_map, is_inner, is_name, is_printable, is_stored, list_all, signed_decimal, text_of, value_text}
 use Rattle.script_words.proofs.Lemmas.{∥∥₁_elim, common_steps, list_all-append, nat_tests, props, stored_parts}
 
 -- the bytes are all printable
@@ -48,6 +48,10 @@ pub name_shows : (name : Name) → Shows (text_of name)
 name_shows name =
     let test : IsProp (Shows (text_of name)) = hlevel props in
     ∥∥₁_elim name.stored test (stored_shows name.len name.bytes)
+
+pub value_shows : (value : Value) → Shows (value_text value)
+value_shows (Num number) = signed_shows number
+value_shows (Text name) = name_shows name
 
 pub each_shows : {X : Type 0} (text : X → List ℕ) → ((x : X) → Shows (text x)) → (xs : List X) → Shows (flat_map text xs)
 each_shows text h [] = refl

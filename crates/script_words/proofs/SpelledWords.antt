@@ -1,8 +1,7 @@
 -- Words that are printed are read.
 use Rattle.std.proofs.Common.{[], ℕ, ◌&&◌, ◌<◌, ◌==◌, ◌^◌, ◌∷◌, ◌≡◌, ◌≤◌, Bool, List, None, Some, arith, false, refl, true}
-use Rattle.scope_rules.specs.declared.types.joiners.Policy.TheVariants.{All}
-use Rattle.script_words.specs.{Any, AwaitAll, AwaitOk, FailuresAtLeast, IsPolicy, IsValue, Name, Num, Policy, SuccessesAtLeast, SumAtLeast, Text, Until, Value, after, decimal, has_no_needless_zero, integer_said, is_ascii_digit}
-use Rattle.script_words.specs.{is_name, is_numeral, list_all, moment_said, name_said, number_said, policy_said, policy_word, rule_said, small_said, text_of, value_said, value_word}
+use Rattle.script_words.specs.{FailuresAtLeast, IsPolicy, IsValue, Name, Num, Policy, SuccessesAtLeast, SumAtLeast, Text, Until, Value, after, decimal, has_no_needless_zero, integer_said, is_ascii_digit}
+use Rattle.script_words.specs.{is_name, is_numeral, list_all, moment_said, name_said, number_said, policy_said, policy_word, rule_said, small_said, text_of, value_said, value_text}
 use Rattle.script_words.proofs.Lemmas.{∥∥₁_elim, nat_tests, props, stored_parts}
 use Rattle.script_words.proofs.{NameWords.name_said_some, Printed.printed_number_is_read, PrintedIntegers.printed_integer_is_read}
 
@@ -41,7 +40,7 @@ name_is_no_integer (b ∷ bs) is =
     let digits = letter_is_no_digit b bs letter in
     rw plain (rw digits refl)
 
-pub value_read : (value : Value) → IsValue value → value_said (value_word value) ≡ Some value
+pub value_read : (value : Value) → IsValue value → value_said (value_text value) ≡ Some value
 unfolding value_said
 value_read (Num number) fits = let read = printed_integer_is_read number fits in rw read refl
 value_read (Text name) fits =
@@ -51,10 +50,7 @@ value_read (Text name) fits =
 
 pub policy_read : (policy : Policy) → IsPolicy policy → policy_said (policy_word policy) ≡ Some policy
 unfolding policy_said rule_said after
-policy_read All fits = refl
-policy_read Any fits = refl
-policy_read AwaitAll fits = refl
-policy_read AwaitOk fits = refl
 policy_read (Until (FailuresAtLeast count)) fits = let read = small_read count fits in rw read refl
 policy_read (Until (SuccessesAtLeast count)) fits = let read = small_read count fits in rw read refl
 policy_read (Until (SumAtLeast sum)) fits = let read = printed_integer_is_read sum fits in rw read refl
+policy_read _ fits = refl

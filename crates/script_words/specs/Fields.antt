@@ -38,3 +38,7 @@ just_three _ = None
 unfoldable pub without_spaces : List ℕ → List ℕ
 without_spaces [] = []
 without_spaces (b ∷ bs) = cond (is_space b) (without_spaces bs) (b ∷ bs)
+
+abbrev pub is_empty : List (List ℕ) → Bool
+is_empty [] = true
+is_empty (word ∷ others) = false

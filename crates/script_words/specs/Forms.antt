@@ -1,116 +1,119 @@
--- The forms of commands.
-use Rattle.std.specs.Prelude.{ℕ, Err, List, None, Ok, Option, Some, codes, if◌then◌else◌, option_map}
-use Rattle.script_words.specs.Terms.{Command, EndValue, Keyword, Label, Name, OneNumber, TwoNumbers, bytes_eq}
-use Rattle.script_words.specs.{Steps.◌>>=◌, Fields.just_one, Fields.just_three, Fields.just_two, Numbers.moment_said, Numbers.small_said, Openings.open_said, Words.name_said, Words.value_said}
+-- The table of forms: the word that each begins with, its fields, and the command that they make.
+use Rattle.std.specs.Prelude.{[], ℕ, ◌∷◌, Err, List, None, Ok, Option, Some, codes, if◌then◌else◌, map, option_map}
+use Rattle.script_words.specs.Terms.{Command, EndValue, FieldKind, Keyword, Label, Name, OpenWord, Slot, bytes_eq}
+use Rattle.script_words.specs.{Steps.◌>>=◌, Fields.is_empty, Fields.just_one, Numbers.first_said, Openings.next_said, Rows.OfSlot, Rows.field_said, Rows.left_out, Rows.option_said}
 use Rattle.scope_rules.specs.declared.types.events.Event.TheVariants as event
 use Rattle.script_words.specs.declared.commands.Query.TheVariants as query
 use Rattle.script_words.specs.declared.commands.Command.TheVariants as command
 use Rattle.script_words.specs.declared.keywords.Keyword.TheVariants as keyword
-use Rattle.script_words.specs.declared.keywords.OneNumber.TheVariants as one
-use Rattle.script_words.specs.declared.keywords.TwoNumbers.TheVariants as two
+use Rattle.script_words.specs.declared.rows.FieldKind.TheVariants as kind
 
--- the number that is the only argument
-unfoldable pub number_alone : List (List ℕ) → Option ℕ
-number_alone args = just_one args >>= small_said
+-- a command is made of what fields say
+abbrev pub Maker : List Slot → Type 0
+Maker [] = Command
+Maker (slot ∷ slots) = OfSlot slot → Maker slots
 
--- what is made of the two arguments: a number, and what the other says
-abbrev pub number_and : {A B : Type 0} → (List ℕ → Option A) → (ℕ → A → B) → List (List ℕ) → Option B
-number_and said made args = do
-  words ← just_two args
-  number ← small_said words.0
-  second ← said words.1
-  Some (made number second)
+-- the word that a form begins with, its fields, and the command that they make
+pub data Form : Type 0 where
+  form : (word : List ℕ) (slots : List Slot) (made : Maker slots) → Form
 
--- what is made of the three arguments: a number, and what the others say
-abbrev pub number_and_two : {A B : Type 0} → (List ℕ → Option A) → (List ℕ → Option B) → (ℕ → A → B → Command) → List (List ℕ) → Option Command
-number_and_two said also_said made args = do
-  words ← just_three args
-  number ← small_said words.0
-  second ← said words.1
-  third ← also_said words.2
-  Some (made number second third)
+abbrev pub word_in : Form → List ℕ
+word_in (form word slots made) = word
 
--- the two arguments, the first as a number
-unfoldable pub number_and_word : List (List ℕ) → Option (ℕ × List ℕ)
-number_and_word args = do
-  words ← just_two args
-  number ← small_said words.0
-  Some (number, words.1)
+abbrev pub slots_in : Form → List Slot
+slots_in (form word slots made) = slots
 
--- the numbers that are the two arguments
-unfoldable pub two_numbers : List (List ℕ) → Option (ℕ × ℕ)
-two_numbers args = number_and small_said (λ first second. (first, second)) args
+abbrev pub made_in : (f : Form) → Maker (slots_in f)
+made_in (form word slots made) = made
+
+-- fields that must be there
+abbrev pub musts : List FieldKind → List Slot
+musts [] = []
+musts (k ∷ ks) = Slot.Must k ∷ musts ks
+
+abbrev pub plain : List ℕ → (ks : List FieldKind) → Maker (musts ks) → Form
+plain word ks made = form word (musts ks) made
+
+abbrev pub may_follow : List Slot
+may_follow = Slot.May OpenWord.Joiner ∷ Slot.May OpenWord.Deadline ∷ Slot.May OpenWord.MoveOn ∷ Slot.May OpenWord.Shield ∷ []
 
 -- a label with no end that is expected
 abbrev pub label_of : Name → Label
 label_of name = record { name = name; due = None }
 
--- `fork A S NAME`, without its first word
-unfoldable pub fork_said : List (List ℕ) → Option Command
-fork_said args = number_and_two small_said name_said (λ actor scope name. command.Do (event.Fork actor scope (label_of name))) args
-
 -- the end of a task that failed so
 abbrev pub failed : Name → EndValue
 failed name = Err (record { 0 = name })
 
--- `ok K VALUE`, without its first word
-unfoldable pub ok_said : List (List ℕ) → Option Command
-ok_said args = number_and value_said (λ task value. command.Do (event.Finish task (Ok value))) args
+-- a row for each form
+abbrev pub form_of : Keyword → Form
+form_of keyword.Open = form (codes "open") (Slot.Must kind.Actor ∷ may_follow) (λ actor policy deadline expiry shield. command.Do (event.Open actor policy (record { deadline = deadline; shield = shield; expiry = expiry })))
+form_of keyword.Fork = plain (codes "fork") (kind.Actor ∷ kind.Scope ∷ kind.Name ∷ []) (λ actor scope name. command.Do (event.Fork actor scope (label_of name)))
+form_of keyword.Reject = plain (codes "reject") (kind.Task ∷ []) (λ task. command.Do (event.Reject task))
+form_of keyword.Start = plain (codes "start") (kind.Task ∷ []) (λ task. command.Do (event.Start task))
+form_of keyword.Succeed = plain (codes "ok") (kind.Task ∷ kind.Value ∷ []) (λ task value. command.Do (event.Finish task (Ok value)))
+form_of keyword.Fail = plain (codes "fail") (kind.Task ∷ kind.Name ∷ []) (λ task name. command.Do (event.Finish task (failed name)))
+form_of keyword.Cancel = plain (codes "cancel") (kind.Scope ∷ []) (λ scope. command.Do (event.Cancel scope))
+form_of keyword.Move = plain (codes "move") (kind.Scope ∷ kind.Deadline ∷ []) (λ scope deadline. command.Do (event.Move scope deadline))
+form_of keyword.Tick = plain (codes "tick") (kind.Moment ∷ []) (λ now. command.Do (event.Tick now))
+form_of keyword.Bind = plain (codes "bind") (kind.Actor ∷ kind.Name ∷ kind.Value ∷ []) (λ actor key value. command.Do (event.Bind actor (record { key = key; value = value })))
+form_of keyword.Unbind = plain (codes "unbind") (kind.Actor ∷ []) (λ actor. command.Do (event.Unbind actor))
+form_of keyword.Join = plain (codes "join") (kind.Actor ∷ kind.Scope ∷ []) (λ actor scope. command.Do (event.Join actor scope))
+form_of keyword.Close = plain (codes "close") (kind.Actor ∷ kind.Scope ∷ []) (λ actor scope. command.Do (event.BeginClose actor scope))
+form_of keyword.Closed = plain (codes "closed") (kind.Actor ∷ kind.Scope ∷ []) (λ actor scope. command.Do (event.EndClose actor scope))
+form_of keyword.Retire = plain (codes "retire") (kind.Actor ∷ []) (λ actor. command.Retire actor)
+form_of keyword.State = plain (codes "state") (kind.Task ∷ []) (λ task. command.Ask (query.State task))
+form_of keyword.Stage = plain (codes "stage") (kind.Task ∷ []) (λ task. command.Ask (query.Stage task))
+form_of keyword.ResultOf = plain (codes "result") (kind.Actor ∷ kind.Task ∷ []) (λ actor task. command.Ask (query.Result actor task))
+form_of keyword.FaultOf = plain (codes "fault") (kind.Actor ∷ kind.Task ∷ []) (λ actor task. command.Ask (query.Fault actor task))
+form_of keyword.Cause = plain (codes "cause") (kind.Scope ∷ []) (λ scope. command.Ask (query.Cause scope))
+form_of keyword.Until = plain (codes "until") (kind.Scope ∷ []) (λ scope. command.Ask (query.Until scope))
+form_of keyword.Counts = plain (codes "counts") (kind.Scope ∷ []) (λ scope. command.Ask (query.Counts scope))
+form_of keyword.Get = plain (codes "get") (kind.Actor ∷ kind.Name ∷ []) (λ actor key. command.Ask (query.Get actor key))
 
--- `fail K NAME`, without its first word
-unfoldable pub fail_said : List (List ℕ) → Option Command
-fail_said args = number_and name_said (λ task name. command.Do (event.Finish task (failed name))) args
+-- the word that the form begins with, its fields behind that word, and the command that they make
+abbrev pub keyword_word : Keyword → List ℕ
+keyword_word f = word_in (form_of f)
 
--- a deadline, or `never`
-unfoldable pub new_deadline_said : List ℕ → Option (Option ℕ)
-new_deadline_said word = if bytes_eq word (codes "never") then Some None else option_map Some (moment_said word)
+abbrev pub slots : Keyword → List Slot
+slots f = slots_in (form_of f)
 
--- `move S N`, or `move S never`, without its first word
-unfoldable pub move_said : List (List ℕ) → Option Command
-move_said args = number_and new_deadline_said (λ scope deadline. command.Do (event.Move scope deadline)) args
+abbrev pub made : (f : Keyword) → Maker (slots f)
+made f = made_in (form_of f)
 
--- `tick N`, without its first word
-unfoldable pub tick_said : List (List ℕ) → Option Command
-tick_said args = option_map (λ n. command.Do (event.Tick n)) (just_one args >>= moment_said)
+-- ---- reading
 
--- `bind A NAME VALUE`, without its first word
-unfoldable pub bind_said : List (List ℕ) → Option Command
-bind_said args = number_and_two name_said value_said (λ actor key value. command.Do (event.Bind actor (record { key = key; value = value }))) args
+-- the keywords, those with short words first, and of one length those that scripts have most often
+abbrev pub keywords : List Keyword
+keywords =
+    keyword.Succeed ∷ keyword.Get ∷ keyword.Fork ∷ keyword.Tick ∷ keyword.Open ∷ keyword.Join ∷ keyword.Bind ∷ keyword.Fail ∷ keyword.Move
+    ∷ keyword.Start ∷ keyword.State ∷ keyword.Cause ∷ keyword.Close ∷ keyword.Stage ∷ keyword.FaultOf ∷ keyword.Until
+    ∷ keyword.Counts ∷ keyword.Closed ∷ keyword.Cancel ∷ keyword.ResultOf ∷ keyword.Unbind ∷ keyword.Reject ∷ keyword.Retire ∷ []
 
--- `get A NAME`, without its first word
-unfoldable pub get_said : List (List ℕ) → Option Command
-get_said args = number_and name_said (λ actor key. command.Ask (query.Get actor key)) args
+abbrev pub worded : List (List ℕ × Keyword)
+worded = map (λ k. (keyword_word k, k)) keywords
 
--- the command of a form with this number
-unfoldable pub one_number_said : OneNumber → ℕ → Command
-one_number_said one.Reject n = command.Do (event.Reject n)
-one_number_said one.Start n = command.Do (event.Start n)
-one_number_said one.Cancel n = command.Do (event.Cancel n)
-one_number_said one.Unbind n = command.Do (event.Unbind n)
-one_number_said one.Retire n = command.Retire n
-one_number_said one.State n = command.Ask (query.State n)
-one_number_said one.Stage n = command.Ask (query.Stage n)
-one_number_said one.Cause n = command.Ask (query.Cause n)
-one_number_said one.Until n = command.Ask (query.Until n)
-one_number_said one.Counts n = command.Ask (query.Counts n)
+-- the keyword that a table has beside the word, in its first row with that word
+abbrev pub keyword_beside : List (List ℕ × Keyword) → List ℕ → Option Keyword
+keyword_beside [] word = None
+keyword_beside (row ∷ rows) word = if bytes_eq word row.0 then Some row.1 else keyword_beside rows word
 
--- the command of a form with these numbers
-unfoldable pub two_numbers_said : TwoNumbers → ℕ → ℕ → Command
-two_numbers_said two.Join a b = command.Do (event.Join a b)
-two_numbers_said two.Close a b = command.Do (event.BeginClose a b)
-two_numbers_said two.Closed a b = command.Do (event.EndClose a b)
-two_numbers_said two.ResultOf a b = command.Ask (query.Result a b)
-two_numbers_said two.FaultOf a b = command.Ask (query.Fault a b)
+-- the keyword that the word is
+unfoldable pub keyword_said : List ℕ → Option Keyword
+keyword_said word = keyword_beside worded word
+
+-- the command that the words make, a field after the other, and no more
+abbrev pub made_of : (slots : List Slot) → Maker slots → List (List ℕ) → Option Command
+made_of [] made words = if is_empty words then Some made else None
+made_of (Slot.Must k ∷ []) made words = option_map made (just_one words >>= field_said k)
+made_of (Slot.Must k ∷ slot ∷ slots) made words = first_said (field_said k) words >>= (λ found. made_of (slot ∷ slots) (made found.0) found.1)
+made_of (Slot.May o ∷ slots) made words =
+    let found = next_said (left_out o) (option_said o) words in
+    made_of slots (made found.0) found.1
+
+abbrev pub said_in : Form → List (List ℕ) → Option Command
+said_in (form word slots made) words = made_of slots made words
 
 -- the command with this keyword and these arguments
 unfoldable pub form_said : Keyword → List (List ℕ) → Option Command
-form_said keyword.Open args = open_said args
-form_said keyword.Fork args = fork_said args
-form_said keyword.Succeed args = ok_said args
-form_said keyword.Fail args = fail_said args
-form_said keyword.Move args = move_said args
-form_said keyword.Tick args = tick_said args
-form_said keyword.Bind args = bind_said args
-form_said keyword.Get args = get_said args
-form_said (keyword.OneNumber form) args = option_map (λ n. one_number_said form n) (number_alone args)
-form_said (keyword.TwoNumbers form) args = option_map (λ n. two_numbers_said form n.0 n.1) (two_numbers args)
+form_said f args = said_in (form_of f) args

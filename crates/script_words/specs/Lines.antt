@@ -1,7 +1,7 @@
 -- What a line says.
 use Rattle.std.specs.Prelude.{[], ℕ, ◌==◌, ◌∷◌, Bool, List, None, Option, Some, false, if◌then◌else◌, length, nat_lt}
 use Rattle.script_words.specs.Terms.{Command, LINE_LIMIT, Line}
-use Rattle.script_words.specs.{Steps.◌>>=◌, Fields.fields, Forms.form_said, Keywords.keyword_said}
+use Rattle.script_words.specs.{Steps.◌>>=◌, Fields.fields, Forms.form_said, Forms.keyword_said}
 use Rattle.script_words.specs.declared.commands.Line.TheVariants as line
 
 -- the command that these fields are

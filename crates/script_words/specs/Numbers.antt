@@ -29,12 +29,9 @@ moment_said word = number_said 18446744073709551615 word
 abbrev pub word_ahead : List ℕ → List ℕ
 word_ahead text = take (position_or_len is_space text) text
 
--- the number that the first field says, and the other fields
-unfoldable pub number_first : ℕ → List (List ℕ) → Option (ℕ × List (List ℕ))
-number_first limit fs = first_and_rest fs >>= (λ found. option_map (λ n. (n, found.1)) (number_said limit found.0))
-
-abbrev pub small_first : List (List ℕ) → Option (ℕ × List (List ℕ))
-small_first fs = number_first 4294967295 fs
+-- what the first field says, and the other fields
+unfoldable pub first_said : {A : Type 0} → (List ℕ → Option A) → List (List ℕ) → Option (A × List (List ℕ))
+first_said said fs = first_and_rest fs >>= (λ found. option_map (λ x. (x, found.1)) (said found.0))
 
 -- the number below 0 with these digits: it is -9223372036854775808 at the least
 unfoldable pub negative_said : List ℕ → Option ℤ

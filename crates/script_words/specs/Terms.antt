@@ -6,10 +6,11 @@ pub use Rattle.std.specs.{Prelude.Some, Prelude.option_and_then, Str.Parse.digit
 pub use Rattle.arrayvec.specs.declared.array_string.ArrayString.{ArrayString}
 pub use Rattle.scope_rules.specs.{Ends.EndValue, NameText.is_inner, Names.text_of, Refusals.line_of, Refusals.word_of}
 pub use Rattle.scope_rules.specs.declared.types.{answers.Cause.Cause, answers.CauseKind.CauseKind, answers.Counts.Counts, answers.Effective.Effective, answers.ForkReply.ForkReply, answers.Stage.Stage, answers.State.State}
-pub use Rattle.scope_rules.specs.declared.types.{answers.Verdict.Verdict, events.Binding.Binding, events.Expiry.Expiry, events.Options.Options, joiners.Policy.Policy, joiners.Policy.TheVariants.Any}
+pub use Rattle.scope_rules.specs.declared.types.{answers.Verdict.Verdict, events.Binding.Binding, events.Event.Event, events.Expiry.Expiry, events.Options.Options, joiners.Policy.Policy, joiners.Policy.TheVariants.Any}
 pub use Rattle.scope_rules.specs.declared.types.{joiners.Policy.TheVariants.AwaitAll, joiners.Policy.TheVariants.AwaitOk, joiners.Policy.TheVariants.Until, joiners.Rule.Rule, joiners.Rule.TheVariants.FailuresAtLeast}
 pub use Rattle.scope_rules.specs.declared.types.{joiners.Rule.TheVariants.SuccessesAtLeast, joiners.Rule.TheVariants.SumAtLeast, names.Name.Name, outcomes.Outcome.Outcome, outcomes.TaskState.TaskState}
 pub use Rattle.scope_rules.specs.declared.types.{outcomes.TaskValue.TaskValue, refusals.Refusal.Refusal, values.Label.Label, values.Value.TheVariants.Num, values.Value.TheVariants.Text, values.Value.Value}
-pub use Rattle.script_words.specs.declared.{commands.Command.Command, commands.Line.Line, keywords.Keyword.Keyword, keywords.OneNumber.OneNumber, keywords.TwoNumbers.TwoNumbers, lines.TheConstants.LINE_LIMIT, reply.Reply.Reply}
+pub use Rattle.script_words.specs.declared.{commands.Command.Command, commands.Line.Line, commands.Query.Query, keywords.Keyword.Keyword, lines.TheConstants.LINE_LIMIT, reply.Reply.Reply, rows.FieldKind.FieldKind}
+pub use Rattle.script_words.specs.declared.{rows.OpenWord.OpenWord, rows.Slot.Slot}
 unfoldable pub use Rattle.std.specs.Fmt.{digits}
 unfoldable pub use Rattle.scope_rules.specs.{NameText.filled_up, NameText.is_name, NameText.is_stored, Texts.outcome_text, Texts.states_text, Texts.values_text}

@@ -6,39 +6,27 @@ ghost use Rattle.script_words.specs.{keyword_beside, keyword_said};
 pub enum Keyword {
     Open,
     Fork,
+    Reject,
+    Start,
     Succeed,
     Fail,
+    Cancel,
     Move,
     Tick,
     Bind,
-    Get,
-    OneNumber(OneNumber),
-    TwoNumbers(TwoNumbers),
-}
-
-/// The first word of a form with one number.
-#[derive(Clone, Copy)]
-pub enum OneNumber {
-    Reject,
-    Start,
-    Cancel,
     Unbind,
-    Retire,
-    State,
-    Stage,
-    Cause,
-    Until,
-    Counts,
-}
-
-/// The first word of a form with two numbers.
-#[derive(Clone, Copy)]
-pub enum TwoNumbers {
     Join,
     Close,
     Closed,
+    Retire,
+    State,
+    Stage,
     ResultOf,
     FaultOf,
+    Cause,
+    Until,
+    Counts,
+    Get,
 }
 
 /// Each word that a form begins with, and its keyword, by the length of the word: what is compared then has a
@@ -51,30 +39,30 @@ const OF_FOUR: [([u8; 4], Keyword); 7] = [
     (*b"fork", Keyword::Fork),
     (*b"tick", Keyword::Tick),
     (*b"open", Keyword::Open),
-    (*b"join", Keyword::TwoNumbers(TwoNumbers::Join)),
+    (*b"join", Keyword::Join),
     (*b"bind", Keyword::Bind),
     (*b"fail", Keyword::Fail),
     (*b"move", Keyword::Move),
 ];
 
 const OF_FIVE: [([u8; 5], Keyword); 7] = [
-    (*b"start", Keyword::OneNumber(OneNumber::Start)),
-    (*b"state", Keyword::OneNumber(OneNumber::State)),
-    (*b"cause", Keyword::OneNumber(OneNumber::Cause)),
-    (*b"close", Keyword::TwoNumbers(TwoNumbers::Close)),
-    (*b"stage", Keyword::OneNumber(OneNumber::Stage)),
-    (*b"fault", Keyword::TwoNumbers(TwoNumbers::FaultOf)),
-    (*b"until", Keyword::OneNumber(OneNumber::Until)),
+    (*b"start", Keyword::Start),
+    (*b"state", Keyword::State),
+    (*b"cause", Keyword::Cause),
+    (*b"close", Keyword::Close),
+    (*b"stage", Keyword::Stage),
+    (*b"fault", Keyword::FaultOf),
+    (*b"until", Keyword::Until),
 ];
 
 const OF_SIX: [([u8; 6], Keyword); 7] = [
-    (*b"counts", Keyword::OneNumber(OneNumber::Counts)),
-    (*b"closed", Keyword::TwoNumbers(TwoNumbers::Closed)),
-    (*b"cancel", Keyword::OneNumber(OneNumber::Cancel)),
-    (*b"result", Keyword::TwoNumbers(TwoNumbers::ResultOf)),
-    (*b"unbind", Keyword::OneNumber(OneNumber::Unbind)),
-    (*b"reject", Keyword::OneNumber(OneNumber::Reject)),
-    (*b"retire", Keyword::OneNumber(OneNumber::Retire)),
+    (*b"counts", Keyword::Counts),
+    (*b"closed", Keyword::Closed),
+    (*b"cancel", Keyword::Cancel),
+    (*b"result", Keyword::ResultOf),
+    (*b"unbind", Keyword::Unbind),
+    (*b"reject", Keyword::Reject),
+    (*b"retire", Keyword::Retire),
 ];
 
 /// The keyword that the word is.

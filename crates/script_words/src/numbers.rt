@@ -1,8 +1,8 @@
-ghost use Rattle.std.specs.Prelude.{◌^◌, ◌≡◌, ◌≤◌, IfSome, IsNone, length, option_map, true};
-ghost use Rattle.script_words.specs.{digits_value, fields, has_no_needless_zero, integer_said, is_ascii_digit, is_space, list_all, moment_said, negative_said, number_first, number_said, position_or_len, small_first, small_said};
-ghost use Rattle.script_words.specs.{word_ahead};
+ghost use Rattle.std.specs.Prelude.{◌^◌, ◌≡◌, ◌≤◌, IfSome, IsNone, length, option_and_then, option_map, true};
+ghost use Rattle.script_words.specs.{digits_value, fields, first_said, has_no_needless_zero, integer_said, is_ascii_digit, is_space, just_one, list_all, moment_said, negative_said, number_said};
+ghost use Rattle.script_words.specs.{position_or_len, small_said, word_ahead};
 
-use crate::fields::without_spaces;
+use crate::fields::{next_field, without_spaces};
 
 /// The number that the word says, at most `u32::MAX`: of a scope, a task or an actor, or a count.
 pub fn small(word: &[u8]) -> Option<u32>
@@ -21,29 +21,50 @@ pub fn moment(word: &[u8]) -> Option<u64>
 
 /// The number that the first field of the text says, at most `u32::MAX`, and the text after it.
 pub fn next_small(text: &[u8]) -> Option<(u32, &[u8])>
-    ensures { option_map (λ found. (found.0, fields found.1.now)) result ≡ small_first (fields text.now) }
+    ensures { option_map (λ found. (found.0, fields found.1.now)) result ≡ first_said small_said (fields text.now) }
 {
     let (number, rest) = next_number(text, u64::from(u32::MAX))?;
     Some((number as u32, rest))
-}
-
-/// The moment that the first field of the text says, and the text after it.
-pub fn next_moment(text: &[u8]) -> Option<(u64, &[u8])>
-    ensures { option_map (λ found. (found.0, fields found.1.now)) result ≡ number_first u64.MAX (fields text.now) }
-{
-    next_number(text, u64::MAX)
 }
 
 /// The number that the first field of the text says, if it is at most the limit, and the text after it. The field is
 /// walked once.
 #[tactic(auto, using(crate::proofs::NumberFields::first_found, crate::proofs::NumberFields::first_refused))]
 fn next_number(text: &[u8], limit: u64) -> Option<(u64, &[u8])>
-    ensures value { option_map (λ found. (found.0, fields found.1.now)) result ≡ number_first limit (fields text.now) }
+    ensures value { option_map (λ found. (found.0, fields found.1.now)) result ≡ first_said (number_said limit) (fields text.now) }
     ensures within { IfSome result (λ found. found.0 ≤ limit) }
 {
     let text = without_spaces(text);
     let (number, len) = numeral_ahead(text, limit)?;
     Some((number, text.split_at(len).1))
+}
+
+/// The number that the only field of the text says, at most `u32::MAX`.
+pub fn last_small(text: &[u8]) -> Option<u32>
+    ensures { result ≡ option_and_then small_said (just_one (fields text.now)) }
+{
+    let number = last_number(text, u64::from(u32::MAX))?;
+    Some(number as u32)
+}
+
+/// The moment that the only field of the text says.
+pub fn last_moment(text: &[u8]) -> Option<u64>
+    ensures { result ≡ option_and_then moment_said (just_one (fields text.now)) }
+{
+    last_number(text, u64::MAX)
+}
+
+/// The number that the only field of the text says, if it is at most the limit.
+#[tactic(auto, using(crate::proofs::NumberFields::last_by_steps))]
+fn last_number(text: &[u8], limit: u64) -> Option<u64>
+    ensures value { result ≡ option_and_then (number_said limit) (just_one (fields text.now)) }
+    ensures within { IfSome result (λ number. number ≤ limit) }
+{
+    let (number, rest) = next_number(text, limit)?;
+    match next_field(rest) {
+        Some(_) => None,
+        None => Some(number),
+    }
 }
 
 /// The number that the bytes before the first space say, if it is at most the limit, and how many they are.

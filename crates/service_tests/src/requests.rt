@@ -9,7 +9,7 @@ use balkreyn::by_hand::{
 use balkreyn::looks::LogEntry;
 use balkreyn::realms::{RealmName, Seed};
 use balkreyn::{
-    AnyEnd, End, Fault, Handle, Joiner, Label, Name, NoTime, Options, Outcome, PoolRuntime,
+    AnyEnd, End, Fault, Handle, Joined, Joiner, Label, Name, NoTime, Options, Outcome, PoolRuntime,
     Refusal, ScopeId, ServiceAnswer, TaskValue, Value, Verdict,
 };
 use std::alloc::Global;
@@ -67,7 +67,7 @@ impl<T: Wait + SystemTime + Copy, N: RealmName, S: Spawner<N>> Job<AnyEnd, S, N>
             clock,
             |ctx: &mut TaskCtx<AnyEnd, S, N>, _scope: ScopeId| -> Result<i64, Failed> {
                 let until = clock.now().saturating_add(takes);
-                match ctx.sleep_by(&own, &mut clock, until)? {
+                match ctx.wait_by(&own, &mut clock, Some(until), None)? {
                     None => Ok(price),
                     Some(_) => Err(Failed::Unwanted),
                 }
@@ -156,7 +156,7 @@ fn sum_within<R: Wait + SystemTime + Copy, N: RealmName, S: CanFork<AnyEnd, N, A
         |ctx: &mut TaskCtx<AnyEnd, S, N>, scope: ScopeId| -> Result<Option<i64>, Refusal> {
             fork(rt, ctx, scope, first.shop, first)?;
             fork(rt, ctx, scope, second.shop, second)?;
-            let joined = ctx.join_by(rt, scope, clock)?;
+            let joined: Joined = ctx.join_by(rt, scope, clock)?;
             Ok(sum_in(&joined.outcome))
         },
     )
@@ -195,7 +195,7 @@ fn ask_both<R: Wait + SystemTime + Copy, N: RealmName, S: CanFork<AnyEnd, N, Ask
         return Err(refused.refusal());
     }
     fork(rt, ctx, scope.number(), asks.1.shop, asks.1)?;
-    let joined = scope.join_by(rt, ctx, clock)?;
+    let joined: Joined = scope.join_by(rt, ctx, clock)?;
     Ok(sum_in(&joined.outcome))
 }
 

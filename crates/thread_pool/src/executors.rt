@@ -64,7 +64,7 @@ impl<N: RealmName> PoolHandle<N> {
         ensures { Returns N.table self.first.value result }
     {
         for _ in rt.forever() {
-            if let Some(Finished { ticket, .. }) = self.way_back.wait(rt)
+            if let Some(Finished { ticket, .. }) = self.way_back.take(rt)
                 && self.is_of(&ticket.held)
             {
                 return ticket.into_held();

@@ -8,6 +8,9 @@ use std::thread::Parker;
 /// times as many spins, threads that wait take the processors from those that work.
 const SPINS: u32 = 600;
 
+/// How often a thread spins between two looks.
+const LOOK: u32 = 300;
+
 /// Where one thread waits for what another puts there.
 #[derive(Drop)]
 pub(crate) struct Handoff<T> {
@@ -47,6 +50,15 @@ impl<T: Drop> Handoff<T> {
         self.item.lock(rt).take()
     }
 
+    /// Takes what was put there, or waits until it is woken first. Nobody waits at the handoff again, whose bell may ring yet.
+    pub(crate) fn take<R: Wait>(&self, rt: &R) -> Option<T> {
+        let put = self.item.lock(rt).take();
+        match put {
+            Some(item) => Some(item),
+            None => self.wait(rt),
+        }
+    }
+
     /// Spins until the bell has rung, or some times.
     fn spin(&self) {
         for _ in 0..SPINS {
@@ -55,5 +67,12 @@ impl<T: Drop> Handoff<T> {
             }
             spin_loop();
         }
+    }
+}
+
+/// Spins for some five microseconds, the time between two looks of a thread that was called.
+pub(crate) fn pause() {
+    for _ in 0..LOOK {
+        spin_loop();
     }
 }

@@ -8,6 +8,7 @@ mod handoffs;
 mod items;
 mod locks;
 mod makers;
+mod pace;
 mod pools;
 mod refusing;
 mod spawning;

@@ -1,5 +1,6 @@
 ghost use Rattle.std.specs.Prelude.{◌++◌, ◌≡◌, IfErr, IfSome, List};
 
+use crate::handoffs::pause;
 use crate::items::OfScope;
 use crate::state::{Answer, Called, Next, PoolState, SharedHandoff, SubmitError, Wish};
 use scope_rules::ScopeId;
@@ -92,11 +93,19 @@ impl<O: Drop> PoolLock<O> {
     }
 
     /// A thread that was woken comes: the item that it is to run, if one is left. Who is to be woken for
-    /// the others is woken before it is run.
+    /// the others is woken before it is run. As long as the threads at work take the items quickly, it spins.
     pub(crate) fn come<R: Wait>(&self, rt: &R) -> Option<O> {
-        let (item, called) = self.state.lock(rt).come();
-        wake(called);
-        item
+        for _ in rt.forever() {
+            let came = self.state.lock(rt).come();
+            match came {
+                Some((item, called)) => {
+                    wake(called);
+                    return item;
+                }
+                None => pause(),
+            }
+        }
+        unreachable!()
     }
 
     /// What a thread does next that has done its work: an item that is left, or it goes idle at its

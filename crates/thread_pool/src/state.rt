@@ -4,6 +4,7 @@ ghost use Rattle.thread_pool.specs.{All, Comes, Goes, IsRefused, IsTold, PoolSta
 
 use crate::handoffs::Handoff;
 use crate::items::OfScope;
+use crate::pace::Pace;
 use scope_rules::ScopeId;
 use std::alloc::{AllocError, Global};
 use std::collections::VecDeque;
@@ -68,7 +69,8 @@ pub(crate) enum Wish {
 ///
 /// Until the pool is closed there are never more such items than threads that rest or were called and have
 /// taken none. And if there is one, a thread is on the way: who was called takes an item and calls the
-/// next for those that are left, before it runs its own. So no item waits for another to end.
+/// next for those that are left, before it runs its own, at the latest once the others took none for the time between
+/// two looks. So no item waits for another to end.
 #[derive(Drop)]
 pub(crate) struct PoolState<O> {
     /// How many threads may rest.
@@ -79,6 +81,7 @@ pub(crate) struct PoolState<O> {
     queue: VecDeque<O>,
     /// Whether a thread was called that has not come yet.
     called: bool,
+    pace: Pace,
     /// How many forks wait for a thread whose making was not begun yet.
     wanted: u64,
     /// The handoffs of threads that were made for forks, one for each.
@@ -113,6 +116,7 @@ impl<O: Drop> PoolState<O> {
             resting: Vec::new(alloc),
             queue: VecDeque::new(alloc),
             called: false,
+            pace: Pace::new(),
             wanted: 0,
             made: Vec::new(alloc),
             unmade: 0,
@@ -245,14 +249,19 @@ fn last_of<O: OfScope>(queue: &VecDeque<O>, scope: ScopeId) -> Option<usize>
 /// What the threads of the pool do with it.
 impl<O: Drop> PoolState<O> {
     /// A thread that was woken comes: the item that it is to run, if one is left, and who is to be woken
-    /// for the others.
-    pub(crate) fn come(&mut self) -> (Option<O>, Option<Called<O>>)
-        ensures { Comes result.0 result.1 self.old.books self.new.books }
+    /// for the others. None if the threads at work take the items quickly, so that one more would only contend with
+    /// them for their locks: it is to look again soon, and is on the way until then.
+    pub(crate) fn come(&mut self) -> Option<(Option<O>, Option<Called<O>>)>
+        ensures { MatchOption result ((0 < length self.old.books.queue) × (self.new.books ≡ self.old.books)) (λ came. Comes came.0 came.1 self.old.books self.new.books) }
     {
+        if !self.queue.is_empty() && self.pace.is_to_wait() {
+            return None;
+        }
         self.called = false;
         let item = self.queue.pop_front();
         let called = call(&mut self.resting, &self.queue, &mut self.called);
-        (item, called)
+        self.pace.come();
+        Some((item, called))
     }
 
     /// What a thread does next that has done its work: it takes an item that is left; else it comes to
@@ -261,8 +270,10 @@ impl<O: Drop> PoolState<O> {
         ensures { Goes handoff number result self.old self.new.books }
     {
         if let Some(item) = self.queue.pop_front() {
+            self.pace.take();
             return Next::Run(item);
         }
+        self.pace.rest();
         if let Some(handoff) = handoff
             && !self.closed
             && self.resting.len() < self.keep

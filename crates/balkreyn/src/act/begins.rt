@@ -10,7 +10,7 @@ use crate::act::tasks::{Part, Task, Timed};
 use crate::aliases::{CanFork, Handle};
 use crate::forks::fork;
 use job_runner::{ForkRefusal, NamedJob};
-use realm_lock::RealmName;
+use realm_lock::{BareOutcome, Never, RealmName};
 use scope_rules::{AnyEnd, ForkReply, Label, Name, Refusal, ScopeId};
 use thread_pool::Spawner;
 use tree_dump::WaitCall;
@@ -92,18 +92,22 @@ impl<K: Handle, O: Observes, S: Spawner<N>, N: RealmName> Cx<'_, K, O, S, N> {
         fork(&clock.runtime(), self.ctx, scope, name, timed)
     }
 
-    /// Joins the scope by the realm's clock, or without one if a tick or the list of the tasks is refused.
+    /// Joins the scope by the realm's clock, or without one if a tick is refused.
     pub(crate) fn await_all(&mut self, scope: ScopeId) -> Result<(), Refusal>
         ensures { SeesMore self.old.ctx.now.token self.new.ctx.now.token }
     {
         let mut clock = self.clock;
         let rt = clock.runtime();
         self.waits_in(WaitCall::Join);
-        let joined = self.ctx.join_by(&rt, scope, &mut clock).is_ok();
-        let found = if joined {
-            Ok(())
-        } else {
-            self.ctx.join_bare(&rt, scope).map(|_joined| ())
+        let found = match self
+            .ctx
+            .join_by::<BareOutcome, _, _>(&rt, scope, &mut clock)
+        {
+            Ok(_joined) => Ok(()),
+            Err(_refusal) => self
+                .ctx
+                .join_by::<BareOutcome, _, _>(&rt, scope, &mut Never)
+                .map(|_joined| ()),
         };
         self.goes_on();
         found

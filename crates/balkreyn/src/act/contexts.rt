@@ -293,7 +293,10 @@ impl<K: Handle, O: Observes, S: Spawner<N>, N: RealmName> Cx<'_, K, O, S, N> {
         let Some(now) = self.frames.come(&mut clock) else {
             return self.ctx.checkpoint();
         };
-        match self.ctx.sleep_by(&clock.runtime(), &mut clock, now) {
+        match self
+            .ctx
+            .wait_by(&clock.runtime(), &mut clock, Some(now), None)
+        {
             Ok(found) => {
                 self.frames.passed(now);
                 found
@@ -464,7 +467,9 @@ impl<K: Handle, O: Observes, N: RealmName, W: Task, S: CanFork<AnyEnd, N, Timed<
         let mut clock = self.clock;
         let until = clock.now().saturating_add(millis);
         self.waits_in(WaitCall::Sleep);
-        let found = self.ctx.sleep_by(&clock.runtime(), &mut clock, until);
+        let found = self
+            .ctx
+            .wait_by(&clock.runtime(), &mut clock, Some(until), None);
         self.goes_on();
         let news = self.told.by_sleep(&found);
         self.report_news(news);
@@ -480,7 +485,9 @@ impl<K: Handle, O: Observes, N: RealmName, W: Task, S: CanFork<AnyEnd, N, Timed<
         let mut clock = self.clock;
         let bell = BellWait { bell, heard };
         self.waits_in(call);
-        let found = self.ctx.wait_rung_by(&clock.runtime(), &mut clock, bell);
+        let found = self
+            .ctx
+            .wait_by(&clock.runtime(), &mut clock, None, Some(bell));
         self.goes_on();
         let news = self.told.by_sleep(&found);
         self.report_news(news);

@@ -111,7 +111,7 @@ impl<
             Duty::Waits => ctx.wait_cancelled(rt).is_some(),
             Duty::WaitsBy => {
                 let mut clock = BoardClock::new(board);
-                matches!(ctx.wait_cancelled_by(&time, &mut clock), Ok(Some(_)))
+                matches!(ctx.wait_by(&time, &mut clock, None, None), Ok(Some(_)))
             }
             Duty::Shields { deadline } => shield(rt, ctx, deadline),
             Duty::OpensLate { deadline } => {
@@ -187,7 +187,7 @@ fn count<N: RealmName, S: Spawner<N>, R: Wait + SystemTime, K: Clock>(
 ) -> bool {
     match open(rt, ctx, Some(deadline), false) {
         Some(scope) => {
-            let is_marked = matches!(ctx.wait_cancelled_by(rt, clock), Ok(Some(_)));
+            let is_marked = matches!(ctx.wait_by(rt, clock, None, None), Ok(Some(_)));
             is_marked && ctx.close_scope_bare(rt, scope).is_ok()
         }
         None => false,

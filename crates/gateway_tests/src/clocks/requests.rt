@@ -3,7 +3,7 @@ ghost use Rattle.std.specs.Prelude.{◌≡◌};
 
 use job_runner::{Answers, Clock, Job, JobWork, NamedJob, SystemClock, TaskCtx, move_on_after};
 use join_rules::Joiner;
-use realm_lock::{Realm, RealmName, Seed};
+use realm_lock::{Joined, Realm, RealmName, Seed};
 use scope_rules::{AnyEnd, End, Expiry, Label, Limits, Name, Options, Outcome, ScopeId, Value};
 use std::alloc::Global;
 use std::marker::Brand;
@@ -48,7 +48,7 @@ impl<T: Wait + SystemTime + Copy, N: RealmName, S: Spawns<N, JobWork<AnyEnd, N, 
                 let mut clock = self.clock;
                 let time = clock.runtime();
                 let until = clock.now().saturating_add(millis);
-                matches!(ctx.sleep_by(&time, &mut clock, until), Ok(None))
+                matches!(ctx.wait_by(&time, &mut clock, Some(until), None), Ok(None))
             }
         };
         Ok(Value::Num(if is_right { 1 } else { 0 }))
@@ -88,7 +88,7 @@ fn is_kept<
         let part = Part::Backend { millis };
         is_forked = fork(rt, ctx, scope, Caller { part, ..job }) && is_forked;
     }
-    let is_partial = match ctx.join_by(&time, scope, &mut clock) {
+    let is_partial = match ctx.join_by::<Joined, _, _>(&time, scope, &mut clock) {
         Ok(joined) => matches!(joined.outcome, Outcome::Partial(_)),
         Err(_) => false,
     };

@@ -4,7 +4,7 @@ ghost use Rattle.std.specs.Prelude.{◌≡◌};
 use super::duties::{Duty, Shared, Worker, fork, open};
 use super::readings::Readings;
 use job_runner::{Clock, JobWork, TaskCtx};
-use realm_lock::{Mark, RealmName};
+use realm_lock::{Joined, Mark, RealmName};
 use scope_rules::{AnyEnd, Event, Limits, Outcome, Refusal, ScopeId};
 use std::rt::Clock as SystemTime;
 use std::sync::Wait;
@@ -144,7 +144,7 @@ pub fn joined<N: RealmName, S: Spawner<N>, R: Wait + SystemTime, K: Clock>(
     scope: ScopeId,
     clock: &mut K,
 ) -> Seen {
-    match ctx.join_by(rt, scope, clock) {
+    match ctx.join_by::<Joined, _, _>(rt, scope, clock) {
         Ok(joined) => match joined.outcome {
             Outcome::Timeout => Seen::Timeout,
             Outcome::Cancelled(_) => Seen::Cancelled,
@@ -191,9 +191,9 @@ fn row_played<
     ]);
     let seen = match row.waiting {
         Waiting::Join => joined(rt, ctx, inner, &mut clock),
-        Waiting::Mark => marked(ctx.wait_cancelled_by(rt, &mut clock)),
+        Waiting::Mark => marked(ctx.wait_by(rt, &mut clock, None, None)),
         Waiting::Sleep { until } => {
-            marked(ctx.sleep_by(rt, &mut clock, from.saturating_add(until)))
+            marked(ctx.wait_by(rt, &mut clock, Some(from.saturating_add(until)), None))
         }
     };
     let ticks = ticks(rt, ctx)?;
@@ -240,8 +240,9 @@ pub fn one_tick<
     let mut clock = Readings::new([0, 5, 9]);
     let refused = Seen::Refused(Refusal::TooMany);
     let mut is_right = joined(rt, ctx, inner, &mut clock) == refused;
-    is_right = is_right && marked(ctx.sleep_by(rt, &mut clock, 60_000)) == refused;
-    is_right = is_right && marked(ctx.wait_cancelled_by(rt, &mut clock)) == refused;
+    is_right = is_right && marked(ctx.wait_by(rt, &mut clock, Some(60_000), None)) == refused;
+    is_right = is_right && marked(ctx.wait_by(rt, &mut clock, None, None)) == refused;
     is_right = is_right && ticks(rt, ctx)? == (1, 5);
-    Some(is_right && ctx.close_scope_bare_by(rt, outer, &mut clock).is_ok())
+    is_right = is_right && ctx.await_close_by(rt, outer, &mut clock).is_ok();
+    Some(is_right && ctx.close_scope_bare(rt, outer).is_ok())
 }

@@ -85,7 +85,8 @@ impl Played {
         Ok(())
     }
 
-    /// Forks so many works in one go that each wait at the place for all others, and joins them.
+    /// Forks as many short works in one go, and then so many that each wait at the place for all others, and joins them.
+    /// So the threads are quick at first, and a thread that is called looks how quick they are before it comes.
     pub fn gather<N: RealmName, S: Spawns<N, PoolWork<N>>, R: Wait>(
         &mut self,
         rt: &R,
@@ -95,6 +96,9 @@ impl Played {
         count: u32,
     ) -> Result<(), AllocError> {
         let mut handles = Vec::new(self.alloc);
+        for _ in 0..count {
+            handles.push(self.fork(rt, spawner, board, Kind::Plain(1), OWNER)?)?;
+        }
         for _ in 0..count {
             handles.push(self.fork(rt, spawner, board, Kind::Gathers(u64::from(count)), place)?)?;
         }

@@ -4,7 +4,7 @@ use super::duties::{Duty, Shared, TestJob, fork, number_of};
 use super::logs::{ends_after_cancel, order_of_ends, starts_and_ends};
 use job_runner::{JobWork, SetClock, TaskCtx, pulse};
 use join_rules::Joiner;
-use realm_lock::{BareOutcome, RealmName};
+use realm_lock::{BareOutcome, Never, RealmName};
 use scope_rules::{AnyEnd, Fault, Options, Outcome, Refusal, State, TaskValue, Value};
 use std::process::Abort;
 use std::sync::Wait;
@@ -58,9 +58,9 @@ pub fn one_fails<N: RealmName, S: Spawns<N, JobWork<AnyEnd, N, TestJob>>, R: Wai
     let fault = Fault(board.label.name);
     assert!(rt; fork(rt, ctx, scope, board, Duty::After { task: 2, number: 5 }).is_ok());
     assert!(rt; fork(rt, ctx, scope, board, Duty::Fails).is_ok());
-    let outcome = ctx.join_bare(rt, scope)?;
+    let outcome: BareOutcome = ctx.join_by(rt, scope, &mut Never)?;
     assert!(rt; outcome == BareOutcome::Failed { task: 2, fault });
-    assert!(rt; ctx.join_bare(rt, scope).err() == Some(Refusal::AlreadyJoined));
+    assert!(rt; ctx.join(rt, scope).err() == Some(Refusal::AlreadyJoined));
     assert!(rt; matches!(ctx.state(rt, 1), Ok(State::Unavailable)));
     assert!(rt; ctx.result(rt, 1).err() == Some(Refusal::Unavailable));
     assert!(rt; ctx.result(rt, 2).err() == Some(Refusal::NotSuccess));
@@ -88,7 +88,9 @@ pub fn main_cancels<N: RealmName, S: Spawns<N, JobWork<AnyEnd, N, TestJob>>, R: 
     assert!(rt; ctx.checkpoint().is_some());
     let never = fork(rt, ctx, scope, board, Duty::Plain(0));
     assert!(rt; never.is_ok());
-    assert!(rt; ctx.join_bare(rt, scope)? == BareOutcome::Cancelled(scope));
+    assert!(rt;
+        ctx.join_by::<BareOutcome, _, _>(rt, scope, &mut Never)? == BareOutcome::Cancelled(scope)
+    );
     let report = ctx.close_scope(rt, scope)?;
     assert!(rt; ends_after_cancel(&report.log, number));
     assert!(rt; starts_and_ends(&report.log) == (1, 1));
@@ -113,7 +115,7 @@ pub fn time_runs_out<N: RealmName, S: Spawns<N, JobWork<AnyEnd, N, TestJob>>, R:
     assert!(rt; pulse(rt, ctx, &mut clock).ok() == Some(99));
     clock.next = 100;
     assert!(rt; pulse(rt, ctx, &mut clock).ok() == Some(100));
-    assert!(rt; ctx.join_bare(rt, scope)? == BareOutcome::Timeout);
+    assert!(rt; ctx.join_by::<BareOutcome, _, _>(rt, scope, &mut Never)? == BareOutcome::Timeout);
     clock.next = 50;
     assert!(rt; pulse(rt, ctx, &mut clock).err() == Some(Refusal::ClockBack));
     ctx.close_scope_bare(rt, scope)?;
@@ -169,7 +171,7 @@ pub fn one_ends_with<N: RealmName, S: Spawns<N, JobWork<AnyEnd, N, TestJob>>, R:
         return Err("no fork")?;
     };
     assert!(rt; ctx.unbind(rt).err() == Some(Refusal::Structure));
-    assert!(rt; ctx.join_bare(rt, scope)? == BareOutcome::Done);
+    assert!(rt; ctx.join_by::<BareOutcome, _, _>(rt, scope, &mut Never)? == BareOutcome::Done);
     assert_eq!(rt; number_of(rt, ctx, task), number);
     ctx.close_scope_bare(rt, scope)?;
     ctx.unbind(rt)?;

@@ -16,7 +16,7 @@ use std::alloc::Global;
 /// The callers' closures lie beside the realm, one place for each scope since the base. No fact ties
 /// the two: a closure that is asked is of the scope's own rule, or the totals answer in its place.
 ///
-/// A scope with one task, as a test of `book_tests` plays it:
+/// A scope with one task, as a test of `part_tests` plays it:
 ///
 /// ```rust
 /// fn one_task(

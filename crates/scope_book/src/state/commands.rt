@@ -194,6 +194,7 @@ impl<C: Catalog> BookState<C> {
 
     /// Performs the command of the event, whichever it is: a scope that it opens has the joiner that its
     /// policy says, and no closure. It is refused as the event's own call is.
+    #[inline(always)]
     pub fn perform(&mut self, event: &Event) -> Result<EventReply, Refusal>
         requires fits { FitsEvent C.fitting (history_of self.old) event.now }
         ensures { Tells (realm_of self.old) event.now result (realm_of self.new) }

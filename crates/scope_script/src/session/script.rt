@@ -1,14 +1,17 @@
-ghost use Rattle.std.specs.Prelude.{[], ◌++◌, ◌∷◌, ◌≡◌, OnErr, OnOk};
-ghost use Rattle.scope_script.specs.{AppendsPart, after_bytes, bytes_reply, end_reply, end_tally, line_reply, realm_after_line, realm_of, reply_text, session_of, shown, tally_after_line, the_beginning};
+ghost use Rattle.std.specs.Prelude.{[], ◌++◌, ◌∷◌, ◌≡◌, OnErr, OnOk, false};
+ghost use Rattle.scope_script.specs.{AppendsPart, Do, after_bytes, bytes_reply, end_reply, end_tally, is_join, line_reply, realm_after, realm_after_line, realm_of, reply_of, reply_text, reply_to, session_of, shown, tally_after_line};
+ghost use Rattle.scope_script.specs.{the_beginning, with_reply};
 
+use crate::performing::answers::reply_of;
 use crate::performing::commands::perform;
 use crate::session::begun::BegunLine;
 use crate::session::cutting::first_line;
 use crate::session::run::{Mode, Ran};
 use crate::session::tally::Tally;
 use scope_book::BookState;
-use scope_rules::{AnyEnd, Limits, Refusal};
-use script_words::{Line, Reply, append_line};
+use scope_checks::EventReply;
+use scope_rules::{AnyEnd, Event, Limits, Refusal};
+use script_words::{Command, Line, Reply, append_line};
 use std::alloc::{AllocError, Global};
 
 /// A script under way: the book that its commands are performed on, how many of its lines were refused, and
@@ -72,11 +75,42 @@ impl Script {
                 self.tally = self.tally.with_bad_word();
                 tell(mode, &Reply::Refused(Refusal::BadWord), replies)
             }
-            Line::Command(command) => {
-                let reply = perform(&mut self.book, command)?;
-                self.tally = self.tally.with_reply(&reply);
-                tell(mode, &reply, replies)
-            }
+            Line::Command(command) => match command {
+                Command::Do(event) if !is_join(event) => self.answer_event(mode, event, replies),
+                _ => {
+                    let reply = perform(&mut self.book, command)?;
+                    self.tally = self.tally.with_reply(&reply);
+                    tell(mode, &reply, replies)
+                }
+            },
+        }
+    }
+
+    /// Answers an event that is no join, as `answer` does its line. No reply is moved on the way: its line is appended
+    /// where it is known.
+    fn answer_event(
+        &mut self,
+        mode: Mode,
+        event: &Event,
+        replies: &mut Vec<u8>,
+    ) -> Result<(), AllocError>
+        requires { is_join (Do event.now) ≡ false }
+        ensures realm { OnOk result (realm_of self.new.book ≡ realm_after (realm_of self.old.book) (Do event.now)) }
+        ensures tally { OnOk result (self.new.tally ≡ with_reply self.old.tally (reply_to (realm_of self.old.book) (Do event.now))) }
+        ensures begun { self.new.begun ≡ self.old.begun }
+        ensures ok { OnOk result (replies.new.items ≡ replies.old.items ++ shown mode (reply_text (reply_to (realm_of self.old.book) (Do event.now)) ++ 10 ∷ [])) }
+        ensures err { OnErr result (replies.new.items ≡ replies.old.items) }
+    {
+        match self.book.perform(event) {
+            Ok(told) => tell_event(mode, event, told, replies),
+            Err(refusal) => match refusal {
+                Refusal::Memory => Err(AllocError),
+                _ => {
+                    let reply = Reply::Refused(refusal);
+                    self.tally = self.tally.with_reply(&reply);
+                    tell(mode, &reply, replies)
+                }
+            },
         }
     }
 
@@ -103,6 +137,37 @@ impl Script {
         }
         self.tally = self.tally.with_bad_word();
         tell(mode, &Reply::Refused(Refusal::BadWord), replies)
+    }
+}
+
+/// Whether the event is a join: what that gave is read apart.
+fn is_join(event: &Event) -> bool
+    ensures { result ≡ is_join (Do event.now) }
+{
+    matches!(event, Event::Join { .. })
+}
+
+/// Appends the line of the reply to the event that was told so, as `reply_of` makes it.
+#[inline(always)]
+fn tell_event(
+    mode: Mode,
+    event: &Event,
+    told: EventReply,
+    replies: &mut Vec<u8>,
+) -> Result<(), AllocError>
+    ensures ok { OnOk result (replies.new.items ≡ replies.old.items ++ shown mode (reply_text (reply_of event.now told) ++ 10 ∷ [])) }
+    ensures err { OnErr result (replies.new.items ≡ replies.old.items) }
+{
+    match told {
+        EventReply::Scope(scope) => tell(mode, &Reply::Scope(scope), replies),
+        EventReply::Task(task) => tell(mode, &Reply::Task(task), replies),
+        EventReply::Recorded | EventReply::Done => match event {
+            Event::Start { .. } => tell(mode, &Reply::Started, replies),
+            Event::Finish { .. } => tell(mode, &Reply::Finished, replies),
+            Event::Tick { now } => tell(mode, &Reply::Moment(*now), replies),
+            _ => tell(mode, &reply_of(event, told), replies),
+        },
+        _ => tell(mode, &reply_of(event, told), replies),
     }
 }
 

@@ -11,26 +11,26 @@ pub end_jobs-requires : goal.end_jobs-requires
 end_jobs-requires g c =
     let old = c.args.ctx.now.token in
     let mid = c.join_by.new.self.token in
-    let keeps = joined_keeps g.K.Clock.reads old c.args.clock.now c.requires.forked.here.legal mid c.join_by.new.clock c.args.scope (Err c.in-Err.refusal) c.in-Err.ensures.answer in
+    let keeps = joined_keeps g.K.Clock.reads old c.args.clock.now c.requires.forked.here.legal mid c.join_by.new.time c.args.scope (Err c.in-Err.refusal) c.in-Err.ensures.answer in
     record { here = here_still old mid c.args.scope c.join_by.ensures.rest.1 keeps c.requires.forked.here }
 
 pub returns-in-Err-clause-keeps : goal.returns-in-Err-clause-keeps
 returns-in-Err-clause-keeps g c =
     let old = c.args.ctx.now.token in
     let mid = c.join_by.new.self.token in
-    let keeps = joined_keeps g.K.Clock.reads old c.args.clock.now c.requires.forked.here.legal mid c.join_by.new.clock c.args.scope (Err c.in-Err.refusal) c.in-Err.ensures.answer in
+    let keeps = joined_keeps g.K.Clock.reads old c.args.clock.now c.requires.forked.here.legal mid c.join_by.new.time c.args.scope (Err c.in-Err.refusal) c.in-Err.ensures.answer in
     tokens_on old mid c.end_jobs.new.ctx.token shapes c.join_by.ensures.rest.1 keeps c.end_jobs.ensures.keeps
 
 pub returns-in-Err-clause-found : goal.returns-in-Err-clause-found
 returns-in-Err-clause-found g c =
     let old = c.args.ctx.now.token in
     let mid = c.join_by.new.self.token in
-    let keeps = joined_keeps g.K.Clock.reads old c.args.clock.now c.requires.forked.here.legal mid c.join_by.new.clock c.args.scope (Err c.in-Err.refusal) c.in-Err.ensures.answer in
+    let keeps = joined_keeps g.K.Clock.reads old c.args.clock.now c.requires.forked.here.legal mid c.join_by.new.time c.args.scope (Err c.in-Err.refusal) c.in-Err.ensures.answer in
     let here = here_still old mid c.args.scope c.join_by.ensures.rest.1 keeps c.requires.forked.here in
-    let Before = HasExpired c.args.deadline (g.K.Clock.reading c.join_by.new.clock) in
+    let Before = HasExpired c.args.deadline (g.K.Clock.reading c.join_by.new.time) in
     let Expired = HasExpired c.args.deadline (g.K.Clock.reading c.end_jobs.new.clock) in
     none_later old mid c.end_jobs.new.ctx.token c.args.plan.now c.args.scope c.end_jobs.ensures.token c.end_jobs.ensures.keeps here Before Expired c.of_refusal.result c.of_refusal.ensures.call
-    (joined_none g.K.Clock.reads old c.args.clock.now c.requires.forked.here.legal mid c.join_by.new.clock c.args.plan.now c.args.scope Before
+    (joined_none g.K.Clock.reads old c.args.clock.now c.requires.forked.here.legal mid c.join_by.new.time c.args.plan.now c.args.scope Before
     c.in-Err.refusal c.of_refusal.result c.in-Err.ensures.answer c.of_refusal.ensures.call c.of_refusal.ensures.memory)
 
 -- ---- it joined
@@ -39,7 +39,7 @@ pub end_jobs-requires-2 : goal.end_jobs-requires-2
 end_jobs-requires-2 g c =
     let old = c.args.ctx.now.token in
     let mid = c.join_by.new.self.token in
-    let keeps = joined_keeps g.K.Clock.reads old c.args.clock.now c.requires.forked.here.legal mid c.join_by.new.clock c.args.scope (Ok c.in-Ok.joined) c.in-Ok.ensures.answer in
+    let keeps = joined_keeps g.K.Clock.reads old c.args.clock.now c.requires.forked.here.legal mid c.join_by.new.time c.args.scope (Ok c.in-Ok.joined) c.in-Ok.ensures.answer in
     record { here = here_still old mid c.args.scope c.join_by.ensures.rest.1 keeps c.requires.forked.here }
 
 pub returns-in-Err-tell-clause-keeps : goal.returns-in-Err-tell-clause-keeps
@@ -47,7 +47,7 @@ returns-in-Err-tell-clause-keeps g c =
     let old = c.args.ctx.now.token in
     let mid = c.join_by.new.self.token in
     let ended = c.end_jobs-2.new.ctx.token in
-    let keeps = joined_keeps g.K.Clock.reads old c.args.clock.now c.requires.forked.here.legal mid c.join_by.new.clock c.args.scope (Ok c.in-Ok.joined) c.in-Ok.ensures.answer in
+    let keeps = joined_keeps g.K.Clock.reads old c.args.clock.now c.requires.forked.here.legal mid c.join_by.new.time c.args.scope (Ok c.in-Ok.joined) c.in-Ok.ensures.answer in
     let over = tokens_on old mid ended shapes c.join_by.ensures.rest.1 keeps c.end_jobs-2.ensures.keeps in
     tokens_on old ended c.tell.new.ctx.token shapes (sees_on old mid ended c.join_by.ensures.rest.1 c.end_jobs-2.ensures.token) over c.tell.ensures.keeps
 
@@ -61,7 +61,7 @@ returns-in-Err-tell-clause-found g c =
     let reading = g.K.Clock.reading c.tell.new.clock in
     let Expired = HasExpired c.args.deadline reading in
     let why = c.of_refusal-in-Err-tell in
-    let keeps = joined_keeps g.K.Clock.reads old c.args.clock.now c.requires.forked.here.legal mid c.join_by.new.clock c.args.scope (Ok c.in-Ok.joined) c.in-Ok.ensures.answer in
+    let keeps = joined_keeps g.K.Clock.reads old c.args.clock.now c.requires.forked.here.legal mid c.join_by.new.time c.args.scope (Ok c.in-Ok.joined) c.in-Ok.ensures.answer in
     let over = tokens_on old mid ended shapes c.join_by.ensures.rest.1 keeps c.end_jobs-2.ensures.keeps in
     none_earlier old ended new plan c.args.scope Expired Expired why.result (begins_going old.limits (shapes old.actor) old.seen ended.seen over) (λ past. past)
     (turned_none ended new plan c.args.scope Expired why.result
@@ -73,7 +73,7 @@ answer_joined-requires g c =
     let mid = c.join_by.new.self.token in
     let ended = c.end_jobs-2.new.ctx.token in
     let tasks = c.args.tasks.now in
-    let joined = joined_by g.K.Clock.reads old mid c.args.clock.now c.join_by.new.clock c.args.scope (labels_of c.args.plan.now) tasks c.in-Ok.joined c.in-Ok.ensures.answer c.requires.forked in
+    let joined = joined_by g.K.Clock.reads old mid c.args.clock.now c.join_by.new.time c.args.scope (labels_of c.args.plan.now) tasks c.in-Ok.joined c.in-Ok.ensures.answer c.requires.forked in
     let still = joined_still mid ended c.args.scope tasks c.end_jobs-2.ensures.token c.end_jobs-2.ensures.keeps joined in
     record { joined = (c.args.scope, joined_still ended c.tell.new.ctx.token c.args.scope tasks c.tell.ensures.token c.tell.ensures.keeps still) }
 
@@ -83,7 +83,7 @@ returns-clause-keeps g c =
     let mid = c.join_by.new.self.token in
     let ended = c.end_jobs-2.new.ctx.token in
     let new = c.answer_joined.new.ctx.token in
-    let keeps = joined_keeps g.K.Clock.reads old c.args.clock.now c.requires.forked.here.legal mid c.join_by.new.clock c.args.scope (Ok c.in-Ok.joined) c.in-Ok.ensures.answer in
+    let keeps = joined_keeps g.K.Clock.reads old c.args.clock.now c.requires.forked.here.legal mid c.join_by.new.time c.args.scope (Ok c.in-Ok.joined) c.in-Ok.ensures.answer in
     let over = tokens_on old mid ended shapes c.join_by.ensures.rest.1 keeps c.end_jobs-2.ensures.keeps in
     tokens_on old ended new shapes (sees_on old mid ended c.join_by.ensures.rest.1 c.end_jobs-2.ensures.token) over (tokens_on ended c.tell.new.ctx.token new shapes c.tell.ensures.token c.tell.ensures.keeps c.answer_joined.ensures.keeps)
 
@@ -98,7 +98,7 @@ returns-clause-found g c =
     let scope = c.args.scope in
     let tasks = c.args.tasks.now in
     let came = c.in-Ok.joined.outcome in
-    let keeps = joined_keeps g.K.Clock.reads old c.args.clock.now c.requires.forked.here.legal mid c.join_by.new.clock scope (Ok c.in-Ok.joined) c.in-Ok.ensures.answer in
+    let keeps = joined_keeps g.K.Clock.reads old c.args.clock.now c.requires.forked.here.legal mid c.join_by.new.time scope (Ok c.in-Ok.joined) c.in-Ok.ensures.answer in
     let there = forked_still old mid scope (labels_of plan) tasks c.join_by.ensures.rest.1 keeps c.requires.forked in
     let over = forked_still mid ended scope (labels_of plan) tasks c.end_jobs-2.ensures.token c.end_jobs-2.ensures.keeps there in
     let then = forked_still ended told scope (labels_of plan) tasks c.tell.ensures.token c.tell.ensures.keeps over in
@@ -117,7 +117,7 @@ returns-clause-told g c =
     let told = c.tell.new.ctx.token in
     let new = c.answer_joined.new.ctx.token in
     let reading = g.K.Clock.reading c.tell.new.clock in
-    let keeps = joined_keeps g.K.Clock.reads old c.args.clock.now c.requires.forked.here.legal mid c.join_by.new.clock c.args.scope (Ok c.in-Ok.joined) c.in-Ok.ensures.answer in
+    let keeps = joined_keeps g.K.Clock.reads old c.args.clock.now c.requires.forked.here.legal mid c.join_by.new.time c.args.scope (Ok c.in-Ok.joined) c.in-Ok.ensures.answer in
     let over = here_still mid ended c.args.scope c.end_jobs-2.ensures.token c.end_jobs-2.ensures.keeps (here_still old mid c.args.scope c.join_by.ensures.rest.1 keeps c.requires.forked.here) in
     let here = here_still ended told c.args.scope c.tell.ensures.token c.tell.ensures.keeps over in
     on_ok_so (IsTold (history_seen new) reading) c.answer_joined.result (told_still told new c.args.scope reading c.answer_joined.ensures.keeps here c.in_default.ensures.told)

@@ -6,5 +6,5 @@ abbrev pub invariant-loop : goal.invariant-loop
 invariant-loop g l =
     ((goal.iterator-loop g).can_next l.iterator' × (goal.iterator-loop g).is_finite l.iterator')
     × SeesMore l.fn.token l.token
-    × Waited g.K.Clock.reads l.fn.token l.fn.clock l.token l.clock
+    × Waited g.T.Time.reads l.fn.token l.fn.time l.token l.time
     × IsBegun (history_seen l.token) l.fn.token.actor l.fn.scope

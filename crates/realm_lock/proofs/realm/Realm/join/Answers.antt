@@ -1,7 +1,9 @@
-use Rattle.realm_lock.proofs.Words.{Ok, joins_later}
+use Rattle.realm_lock.specs.{Joins}
+use Rattle.realm_lock.proofs.{Waits.joins_never, Words.joins_later}
 use Rattle.realm_lock.proofs.realm.Realm.join.Goals as goal
 
-pub returns-in-Ok-clause-answer : goal.returns-in-Ok-clause-answer
-returns-in-Ok-clause-answer g c =
-    let so_far = c.loop.invariant in
-    joins_later c.args.token.now c.loop.token c.join.new.token c.args.scope (Ok c.in-Ok.joined) so_far.1 so_far.2 c.in-Ok.ensures.answer
+pub returns-clause-answer : goal.returns-clause-answer
+returns-clause-answer g c =
+    let old = c.args.token.now in
+    let new = c.join_by.new.token in
+    joins_never _ (λ a b n none. none) Joins old new _ _ c.args.scope c.join_by.result (λ now. joins_later old now new c.args.scope c.join_by.result) c.join_by.ensures.answer

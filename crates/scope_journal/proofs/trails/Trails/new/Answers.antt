@@ -7,4 +7,4 @@ pub returns-clause-trails : goal.returns-clause-trails
 returns-clause-trails c = grind (arith, common_steps)
 
 pub returns-clause-agrees : goal.returns-clause-agrees
-returns-clause-agrees c = λ base scopes. begins c.args.before base _ (returns-clause-trails c) scopes
+returns-clause-agrees c = λ base scopes. begins c.args.before base _ (grind (arith, common_steps)) scopes

@@ -1,9 +1,0 @@
--- The token and the clock are those of a wait so far.
-use Rattle.realm_lock.specs.{SeesMore, Waited}
-use Rattle.realm_lock.proofs.realm.Realm.sleep_by.Given as goal
-
-abbrev pub invariant-loop : goal.invariant-loop
-invariant-loop g l =
-    ((goal.iterator-loop g).can_next l.iterator' × (goal.iterator-loop g).is_finite l.iterator')
-    × SeesMore l.fn.token l.token
-    × Waited g.K.Clock.reads l.fn.token l.fn.clock l.token l.clock
