@@ -9,7 +9,7 @@ pub use Rattle.cancel_marks.specs.{Marked.said_by, Seats.CellValue, Seats.Seen}
 pub use Rattle.cancel_marks.specs.declared.marks.Mark.{Mark}
 pub use Rattle.join_rules.specs.Joiners.{policy_of}
 pub use Rattle.once_cell.specs.Once.{Agrees}
-pub use Rattle.realm_core.specs.{Tasks.Finishes, Tasks.IsNewTicket, Tasks.MayFinish, Views.JoinsBare, Views.MarkedViewAnswers, Views.ViewAnswers, Waiting.FoundUnsettled, Waiting.IsOpenOf}
+pub use Rattle.realm_core.specs.{Tasks.Finishes, Tasks.IsNewTicket, Tasks.MayFinish, Views.MarkedViewAnswers, Views.ViewAnswers, Waiting.FoundUnsettled, Waiting.IsOpenOf}
 pub use Rattle.realm_core.specs.declared.{forking.Forked.Forked, reports.CloseReport.CloseReport}
 pub use Rattle.realm_lock.specs.Batches.{ForksAll, ForksEach, ForksNext, ForksUpTo, forking}
 pub use Rattle.scope_book.specs.Books.{refusal_alone}

@@ -3,7 +3,6 @@
 mod boards;
 mod naming;
 mod plays;
-mod recalls;
 mod rounds;
 mod rows;
 mod threads;

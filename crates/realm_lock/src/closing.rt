@@ -27,7 +27,7 @@ impl<C: Catalog, N: RealmName> Realm<C, N> {
         ensures answer { ClosesBare token.old token.new scope result }
         ensures sure { IsOpenOf (history_seen token.old) token.old.actor scope → IsOk result }
     {
-        let mut locked = self.shared.locked.lock(rt);
+        let mut locked = self.shared.lock(rt);
         match locked.begin(token, scope) {
             Ok(_) => Ok(self.end_held(rt, locked, token, scope)),
             Err(refusal) => Err(refusal),
@@ -75,7 +75,7 @@ impl<C: Catalog, N: RealmName> Realm<C, N> {
         ensures answer { Begins token.old token.new scope result }
         ensures sure { IsOpenOf (history_seen token.old) token.old.actor scope → IsOk result }
     {
-        let mut locked = self.shared.locked.lock(rt);
+        let mut locked = self.shared.lock(rt);
         locked.begin(token, scope)
     }
 
@@ -87,7 +87,7 @@ impl<C: Catalog, N: RealmName> Realm<C, N> {
         ensures ends { (nested : List ℕ) × EndsLater token.old token.new scope nested }
         ensures verdict { result ≡ verdict (history_seen token.new) scope }
     {
-        let locked = self.shared.locked.lock(rt);
+        let locked = self.shared.lock(rt);
         self.end_held(rt, locked, token, scope)
     }
 
@@ -134,7 +134,7 @@ impl<C: Catalog, N: RealmName> Realm<C, N> {
         ensures done { IfOk result (λ report. EndsReported token.old token.new scope tickets.old.items report) }
         ensures not { IfErr result (λ refusal. HoldsBack token.old token.new scope tickets.old.items tickets.new.items refusal) }
     {
-        let mut locked = self.shared.locked.lock(rt);
+        let mut locked = self.shared.lock(rt);
         for _ in rt.forever() {
             match locked.report_if_settled(token, scope, tickets) {
                 Some(answer) => return answer,

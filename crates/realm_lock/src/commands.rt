@@ -51,7 +51,7 @@ impl<C: Catalog, N: RealmName> Realm<C, N> {
     {
         let actor = token.actor();
         let binding = Binding { key, value };
-        let mut locked = self.shared.locked.lock(rt);
+        let mut locked = self.shared.lock(rt);
         reply_done(locked.perform(token, &Event::Bind { actor, binding }))
     }
 
@@ -64,7 +64,7 @@ impl<C: Catalog, N: RealmName> Realm<C, N> {
         ensures fitting { Fitting C.fitting (history_seen token.new) }
     {
         let actor = token.actor();
-        let mut locked = self.shared.locked.lock(rt);
+        let mut locked = self.shared.lock(rt);
         reply_done(locked.perform(token, &Event::Unbind { actor }))
     }
 
@@ -82,7 +82,7 @@ impl<C: Catalog, N: RealmName> Realm<C, N> {
         ensures answer { Records token.old token.new (Event.BeginClose token.old.actor scope) result }
         ensures fitting { Fitting C.fitting (history_seen token.new) }
     {
-        let mut locked = self.shared.locked.lock(rt);
+        let mut locked = self.shared.lock(rt);
         locked.begin_close(token, scope)
     }
 
@@ -99,7 +99,7 @@ impl<C: Catalog, N: RealmName> Realm<C, N> {
         ensures answer { RecordsOrMemory token.old token.new (Event.Cancel scope) result }
         ensures fitting { Fitting C.fitting (history_seen token.new) }
     {
-        let mut locked = self.shared.locked.lock(rt);
+        let mut locked = self.shared.lock(rt);
         reply_noted(locked.perform(token, &Event::Cancel { scope }))
     }
 
@@ -118,7 +118,7 @@ impl<C: Catalog, N: RealmName> Realm<C, N> {
         ensures answer { DoesOrMemory token.old token.new (RealmStep.Asked token.old.actor (Ask.Move scope deadline)) (λ _. tt) result }
         ensures fitting { Fitting C.fitting (history_seen token.new) }
     {
-        let mut locked = self.shared.locked.lock(rt);
+        let mut locked = self.shared.lock(rt);
         let before = locked.next_deadline();
         let told = locked.perform(token, &Event::Move { scope, deadline });
         self.wake_if_nearer(&mut locked, before);
@@ -132,7 +132,7 @@ impl<C: Catalog, N: RealmName> Realm<C, N> {
         ensures answer { DoesOrMemory token.old token.new (RealmStep.Asked token.old.actor (Ask.Tick now)) (λ _. tt) result }
         ensures fitting { Fitting C.fitting (history_seen token.new) }
     {
-        let mut locked = self.shared.locked.lock(rt);
+        let mut locked = self.shared.lock(rt);
         reply_done(locked.perform(token, &Event::Tick { now }))
     }
 
@@ -146,7 +146,7 @@ impl<C: Catalog, N: RealmName> Realm<C, N> {
         ensures base { IfOk result (λ base. history_seen token.new ≡ record { base = base; events = [] }) }
         ensures fitting { Fitting C.fitting (history_seen token.new) }
     {
-        let mut locked = self.shared.locked.lock(rt);
+        let mut locked = self.shared.lock(rt);
         locked.retire(token)
     }
 }

@@ -116,7 +116,7 @@ impl<C: Catalog, N: RealmName> Realm<C, N> {
         let mut owed = None;
         for _ in rt.forever() {
             let now = time.read();
-            let mut locked = self.shared.locked.lock(rt);
+            let mut locked = self.shared.lock(rt);
             match locked.join_in_time(token, scope, now) {
                 Err(Refusal::NotReady) => owed = self.park(rt, locked, now, None, wanted, owed),
                 Err(refusal) => {

@@ -31,7 +31,7 @@ impl<C: Catalog, N: RealmName> Realm<C, N> {
         requires named { token.old.table ≡ N.table }
         ensures { Reads token.old token.new (λ h. L.tells look h result) }
     {
-        let mut locked = self.shared.locked.lock(rt);
+        let mut locked = self.shared.lock(rt);
         locked.look(token);
         look.look(locked.core().realm())
     }
@@ -42,7 +42,7 @@ impl<C: Catalog, N: RealmName> Realm<C, N> {
     pub fn look_from_outside<R: Wait, L: Look>(&self, rt: &R, look: L) -> L::Answer
         ensures { IsSeen C.fitting (λ h. L.tells look h result) }
     {
-        let locked = self.shared.locked.lock(rt);
+        let locked = self.shared.lock(rt);
         seen(locked.core(), look)
     }
 }

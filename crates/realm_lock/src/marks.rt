@@ -19,7 +19,7 @@ impl<C: Catalog, N: RealmName> Realm<C, N> {
         ensures cell { seat.new.cell ≡ cell.now }
         ensures mark { (result.seat ≡ seat.new) × (seat.new.known ≡ Some (said_by result)) × Agrees seat.old.known (said_by result) }
     {
-        let mut locked = self.shared.locked.lock(rt);
+        let mut locked = self.shared.lock(rt);
         for _ in rt.forever() {
             match cell.checkpoint(seat) {
                 Some(mark) => return mark,

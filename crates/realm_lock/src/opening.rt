@@ -70,7 +70,7 @@ impl<C: Catalog, N: RealmName> Realm<C, N> {
         ensures cell { MatchResult result (λ opened. opened.1.scope ≡ opened.0) (λ back. back.1 ≡ joiner) }
         ensures fitting { Fitting C.fitting (history_seen token.new) }
     {
-        let mut locked = self.shared.locked.lock(rt);
+        let mut locked = self.shared.lock(rt);
         let before = locked.next_deadline();
         let opened = locked.open(token, joiner, options);
         self.wake_if_nearer(&mut locked, before);
@@ -90,7 +90,7 @@ impl<C: Catalog, N: RealmName> Realm<C, N> {
         ensures answer { Reads token.old token.new (λ h. CellAnswers h scope result) }
         ensures fitting { Fitting C.fitting (history_seen token.new) }
     {
-        let mut locked = self.shared.locked.lock(rt);
+        let mut locked = self.shared.lock(rt);
         locked.look(token);
         let _fitting = locked.core().limits();
         let cell = locked.cell(scope)?;

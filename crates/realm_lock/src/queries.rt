@@ -18,7 +18,7 @@ impl<C: Catalog, N: RealmName> Realm<C, N> {
         ensures answer { Reads token.old token.new (λ h. result ≡ binding_reply h token.new.actor key.now) }
         ensures fitting { Fitting C.fitting (history_seen token.new) }
     {
-        let mut locked = self.shared.locked.lock(rt);
+        let mut locked = self.shared.lock(rt);
         locked.look(token);
         let _fitting = locked.core().limits();
         queries::binding(locked.core().realm(), token.actor(), key)
@@ -38,7 +38,7 @@ impl<C: Catalog, N: RealmName> Realm<C, N> {
         ensures answer { Reads token.old token.new (λ h. result ≡ result_reply h token.new.actor task) }
         ensures fitting { Fitting C.fitting (history_seen token.new) }
     {
-        let mut locked = self.shared.locked.lock(rt);
+        let mut locked = self.shared.lock(rt);
         locked.look(token);
         let _fitting = locked.core().limits();
         queries::result(locked.core().realm(), token.actor(), task)
@@ -56,7 +56,7 @@ impl<C: Catalog, N: RealmName> Realm<C, N> {
         ensures answer { Reads token.old token.new (λ h. result ≡ fault_reply h token.new.actor task) }
         ensures fitting { Fitting C.fitting (history_seen token.new) }
     {
-        let mut locked = self.shared.locked.lock(rt);
+        let mut locked = self.shared.lock(rt);
         locked.look(token);
         let _fitting = locked.core().limits();
         queries::fault(locked.core().realm(), token.actor(), task)
@@ -68,7 +68,7 @@ impl<C: Catalog, N: RealmName> Realm<C, N> {
         ensures answer { Reads token.old token.new (λ h. result ≡ innermost h token.new.actor) }
         ensures fitting { Fitting C.fitting (history_seen token.new) }
     {
-        let mut locked = self.shared.locked.lock(rt);
+        let mut locked = self.shared.lock(rt);
         locked.look(token);
         let _fitting = locked.core().limits();
         locked.core().realm().innermost(token.actor())
@@ -86,7 +86,7 @@ impl<C: Catalog, N: RealmName> Realm<C, N> {
         ensures answer { Reads token.old token.new (λ h. result ≡ answering (task_check h task) (state h task)) }
         ensures fitting { Fitting C.fitting (history_seen token.new) }
     {
-        let mut locked = self.shared.locked.lock(rt);
+        let mut locked = self.shared.lock(rt);
         locked.look(token);
         let _fitting = locked.core().limits();
         queries::state(locked.core().realm(), task)
@@ -105,7 +105,7 @@ impl<C: Catalog, N: RealmName> Realm<C, N> {
         ensures answer { Reads token.old token.new (λ h. result ≡ answering (until_check h scope) (effective h scope)) }
         ensures fitting { Fitting C.fitting (history_seen token.new) }
     {
-        let mut locked = self.shared.locked.lock(rt);
+        let mut locked = self.shared.lock(rt);
         locked.look(token);
         let _fitting = locked.core().limits();
         queries::effective_deadline(locked.core().realm(), scope)

@@ -40,7 +40,7 @@ impl<C: Catalog, N: RealmName> Realm<C, N> {
             }
             None => {
                 drop(locked);
-                self.shared.locked.lock(rt)
+                self.shared.lock(rt)
             }
         }
     }

@@ -60,7 +60,7 @@ impl<C: Catalog, N: RealmName> Realm<C, N> {
         let mut owed = None;
         for _ in rt.forever() {
             let now = time.read();
-            let mut locked = self.shared.locked.lock(rt);
+            let mut locked = self.shared.lock(rt);
             match locked.is_settled_in_time(token, scope, now) {
                 Ok(true) => {
                     self.hand_on(&locked, owed);
@@ -105,7 +105,7 @@ impl<C: Catalog, N: RealmName> Realm<C, N> {
         let mut owed = None;
         for _ in rt.forever() {
             let now = time.read();
-            let mut locked = self.shared.locked.lock(rt);
+            let mut locked = self.shared.lock(rt);
             match locked.marked_in_time(token, cell, seat, now) {
                 Ok(None) => {
                     if is_over(until, now, &bell) {
@@ -148,7 +148,7 @@ impl<C: Catalog, N: RealmName> Realm<C, N> {
         let mut owed = None;
         for _ in rt.forever() {
             let now = time.read();
-            let mut locked = self.shared.locked.lock(rt);
+            let mut locked = self.shared.lock(rt);
             if let Err(refusal) = locked.pass_due(token, now) {
                 self.hand_on(&locked, owed);
                 return Err(refusal);

@@ -21,7 +21,7 @@ impl<C: Catalog, N: RealmName> Realm<C, N> {
         requires named { token.old.table ≡ N.table }
         ensures { Reads token.old token.new (λ h. ViewAnswers h scope result × Fitting C.fitting h) }
     {
-        let mut locked = self.shared.locked.lock(rt);
+        let mut locked = self.shared.lock(rt);
         locked.look(token);
         let _fitting = locked.core().limits();
         view_of(locked.core().realm(), scope)
@@ -40,7 +40,7 @@ impl<C: Catalog, N: RealmName> Realm<C, N> {
         requires named { token.old.table ≡ N.table }
         ensures { Reads token.old token.new (λ h. MarkedViewAnswers h scope mark.now.cause mark.now.number result × Fitting C.fitting h) }
     {
-        let mut locked = self.shared.locked.lock(rt);
+        let mut locked = self.shared.lock(rt);
         locked.look(token);
         let _fitting = locked.core().limits();
         marked_view_of(locked.core().realm(), scope, mark.cause, mark.number)
@@ -52,7 +52,7 @@ impl<C: Catalog, N: RealmName> Realm<C, N> {
         requires named { token.old.table ≡ N.table }
         ensures { Reads token.old token.new (λ h. MatchResult result (λ events. events.items ≡ h.events) (λ refusal. refusal ≡ Refusal.Memory) × Fitting C.fitting h) }
     {
-        let mut locked = self.shared.locked.lock(rt);
+        let mut locked = self.shared.lock(rt);
         let alloc = locked.alloc();
         locked.look(token);
         let _fitting = locked.core().limits();

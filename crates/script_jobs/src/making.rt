@@ -52,19 +52,3 @@ fn is_answered_line(line: &str) -> bool
     let bytes = line.as_bytes();
     !bytes.contains(&b'\n') && !matches!(read_line(bytes), Line::Silent)
 }
-
-#[cfg(test)]
-mod tests {
-    use super::script_by;
-    use std::alloc::AllocError;
-
-    #[test]
-    fn the_seed_decides_the_script(rt: HostRuntime) -> Result<(), AllocError> {
-        let one = script_by(rt.alloc(), 7, 200)?;
-        let again = script_by(rt.alloc(), 7, 200)?;
-        let other = script_by(rt.alloc(), 8, 200)?;
-        let is_so = one.as_str() == again.as_str() && one.as_str() != other.as_str();
-        assert!(rt; is_so, "the scripts of 7, 7 and 8");
-        Ok(())
-    }
-}

@@ -1,5 +1,4 @@
 pub mod Batched
 pub mod Moved
-pub mod Recalled
 pub mod Returned
 mod Words

@@ -5,6 +5,6 @@ pub mod Batches
 pub mod Words
 pub use Words.*
 pub use Batches.*
-pub use PoolState.{Books, Comes, Goes, IsRefused, IsTold, PoolStateValue, Takes, TakesFirst, TakesLast, Tells, Wishes, asked, books, fitting, is_calling, nobody, takers}
+pub use PoolState.{Books, Comes, Goes, IsRefused, IsTold, PoolStateValue, Takes, TakesFirst, Tells, Wishes, asked, books, fitting, is_calling, nobody, takers}
 pub use Returns.*
 pub use Teams.{ArePartedAt, AreReturns, HasRoom, HasThreadMore, HasThreadsMore, IsSameTeam, Joins, TeamValue}

@@ -1,5 +1,5 @@
 -- A pool's state, as contracts see it, and what each call makes of it.
-use Rattle.std.specs.Prelude.{[], ℕ, ◌&&◌, ◌++◌, ◌+◌, ◌-◌, ◌<◌, ◌^◌, ◌||◌, ◌∷◌, ◌≡◌, ◌≢◌, ◌≤◌, ◌⊎◌, Bool, IsSome, List, None, Option, Some, false, if◌then◌else◌, is_some, length, min, nat_lt, not, option_to_list, true}
+use Rattle.std.specs.Prelude.{[], ℕ, ◌&&◌, ◌++◌, ◌+◌, ◌-◌, ◌<◌, ◌^◌, ◌||◌, ◌∷◌, ◌≡◌, ◌≤◌, ◌⊎◌, Bool, IsSome, List, None, Option, Some, false, if◌then◌else◌, is_some, length, min, nat_lt, not, option_to_list, true}
 use Rattle.thread_pool.specs.Words.{All, Answer, Next}
 use Rattle.thread_pool.specs.declared.state.{SubmitError.SubmitError, Wish.Wish}
 use Rattle.thread_pool.specs.declared.state.Answer.TheVariants as answer
@@ -97,15 +97,6 @@ asked refused.Pool b = b
 abbrev pub Tells : {O : Type 0} → Answer O → Books O → Books O → Type 0
 Tells (answer.Made handoff) old new = (0 < old.made) × (new ≡ record old { made = old.made - 1 })
 Tells answer.Unmade old new = (old.made ≡ 0) × (0 < old.unmade) × (new ≡ record old { unmade = old.unmade - 1 })
-
--- the item is the last in the queue that is of scope s, and has left it
-pub record TakesLast {O : Type 0} (scope_of : O → ℕ) (s : ℕ) (item : O) (old new : List O) : Type 0 where
-  pub before : List O
-  pub after : List O
-  pub was : old ≡ before ++ item ∷ after
-  pub left : new ≡ before ++ after
-  pub of_scope : scope_of item ≡ s
-  pub last : All (λ o. scope_of o ≢ s) after
 
 -- the oldest item is given, if there is one, and somebody is called for the others, if there are any and one rests
 pub record Comes {O T : Type 0} (item : Option O) (called : Option T) (old new : Books O) : Type 0 where

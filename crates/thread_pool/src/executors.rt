@@ -1,11 +1,11 @@
-ghost use Rattle.std.specs.Prelude.{◌↔◌, ◌≡◌, IfSome, IsTrue, MatchResult};
+ghost use Rattle.std.specs.Prelude.{◌↔◌, ◌≡◌, IsTrue, MatchResult};
 ghost use Rattle.thread_pool.specs.Returns.{Returns};
 
 use crate::batches::{hand_back, make_items};
 use crate::handoffs::Handoff;
 use crate::items::{Finished, WayBack, WorkItem};
 use crate::locks::PoolLock;
-use crate::spawning::{Ready, Recalls, Spawner, Spawns};
+use crate::spawning::{Ready, Spawner, Spawns};
 use scope_rules::{Label, ScopeId, TaskId};
 use share_ledger::{RealmName, Ticket};
 use std::alloc::Global;
@@ -129,20 +129,6 @@ impl<N: RealmName, W: Ready + Drop> Spawns<N, W> for OsThreads<N, W> {
         make_items(self.alloc, count, works, handles, &mut items);
         self.lock.give_all(rt, &mut items);
         hand_back(items, works, handles);
-    }
-}
-
-impl<N: RealmName, W: Ready + Drop> Recalls<N, W> for OsThreads<N, W> {
-    fn share(&self) -> Option<OsThreads<N, W>> {
-        let lock = Arc::try_clone(&self.lock).ok()?;
-        Some(OsThreads {
-            alloc: self.alloc,
-            lock,
-        })
-    }
-
-    fn recall<R: Wait>(&self, rt: &R, scope: ScopeId) -> Option<WorkItem<N, W>> {
-        self.lock.recall(rt, scope)
     }
 }
 

@@ -4,7 +4,6 @@ ghost use Rattle.thread_pool.specs.Returns.{Returns};
 
 use crate::handoffs::Handoff;
 use crate::spawning::{Ready, Work};
-use scope_rules::ScopeId;
 use share_ledger::{OfRealm, RealmName, Ticket};
 use std::alloc::Global;
 use std::sync::{Arc, Wait};
@@ -47,22 +46,10 @@ impl<N: RealmName> OwedTicket<N> {
     }
 }
 
-/// What lies in the queue of a pool: which scope its task is of.
-pub(crate) trait OfScope {
-    ghost use Rattle.std.specs.Prelude.{ℕ, ◌≡◌};
-
-    /// The scope.
-    ghost scope_of: { Self → ℕ };
-
-    /// The scope.
-    fn scope(&self) -> ScopeId
-        ensures { result ≡ Self.scope_of self.now };
-}
-
 /// What a thread of a pool is given: a work, its ticket, and where the ticket is put once the work has
 /// ended. Who has it runs it, or the join of its handle waits for ever.
 #[derive(Drop)]
-pub struct WorkItem<N: RealmName, W: Ready> {
+pub(crate) struct WorkItem<N: RealmName, W: Ready> {
     work: W,
     ticket: Ticket,
     way_back: WayBack<N>,
@@ -107,25 +94,5 @@ impl<N: RealmName, W: Ready> WorkItem<N, W> {
         let (ticket, spawner) = work.run(rt, spawner, ticket);
         let finished = Finished::new(ticket);
         (OwedTicket { finished, way_back }, spawner)
-    }
-
-    /// Runs the work in the caller's own thread, by the spawner that it is lent, and puts the ticket where the
-    /// join of its handle finds it. Gives the spawner back. That the ticket is put there, the types say
-    /// (`OwedTicket`), and no clause: none sees what lies under a lock. The join says that it has ended.
-    pub fn run_here<S, R: Wait>(self, rt: &R, spawner: S) -> S
-    where
-        W: Work<N, S> + Drop,
-    {
-        let (owed, spawner) = self.run(rt, spawner);
-        owed.put(rt);
-        spawner
-    }
-}
-
-impl<N: RealmName, W: Ready> OfScope for WorkItem<N, W> {
-    ghost scope_of = { λ item. item.ticket.scope };
-
-    fn scope(&self) -> ScopeId {
-        self.ticket.scope()
     }
 }

@@ -16,9 +16,8 @@ mod state;
 mod teams;
 
 pub use executors::{OsThreads, PoolHandle};
-pub use items::WorkItem;
 pub use makers::PoolRuntime;
 pub use pools::ThreadPool;
 pub use refusing::Nobody;
-pub use spawning::{Ready, Recalls, Spawner, Spawns, Work};
+pub use spawning::{Ready, Spawner, Spawns, Work};
 pub use teams::Team;

@@ -1,9 +1,7 @@
-ghost use Rattle.std.specs.Prelude.{◌++◌, ◌≡◌, IfErr, IfSome, List};
+ghost use Rattle.std.specs.Prelude.{◌++◌, ◌≡◌, IfErr, List};
 
 use crate::handoffs::pause;
-use crate::items::OfScope;
 use crate::state::{Answer, Called, Next, PoolState, SharedHandoff, SubmitError, Wish};
-use scope_rules::ScopeId;
 use std::alloc::{AllocError, Global};
 use std::collections::VecDeque;
 use std::sync::{Arc, Condvar, Mutex, Wait};
@@ -156,15 +154,6 @@ impl<O: Drop> PoolLock<O> {
     pub(crate) fn close<R: Wait>(&self, rt: &R) {
         self.state.lock(rt).close();
         self.maker.unpark();
-    }
-}
-
-impl<O: Drop + OfScope> PoolLock<O> {
-    /// Takes the last item of the scope that no thread has taken, if there is one.
-    pub(crate) fn recall<R: Wait>(&self, rt: &R, scope: ScopeId) -> Option<O>
-        ensures { IfSome result (λ item. O.scope_of item ≡ scope) }
-    {
-        self.state.lock(rt).recall(scope)
     }
 }
 

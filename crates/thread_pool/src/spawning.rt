@@ -1,8 +1,6 @@
-ghost use Rattle.std.specs.Prelude.{[], ◌≡◌, ◌≤◌, IfSome, MatchResult, vec_capacity};
+ghost use Rattle.std.specs.Prelude.{[], ◌≡◌, ◌≤◌, MatchResult, vec_capacity};
 ghost use Rattle.thread_pool.specs.{All, Returns.Returns, SpawnsFirst, deque_len};
 
-use crate::items::WorkItem;
-use scope_rules::ScopeId;
 use share_ledger::{RealmName, Ticket};
 use std::collections::VecDeque;
 use std::sync::Wait;
@@ -70,17 +68,4 @@ pub trait Spawns<N: RealmName, W: Ready>: Spawner<N> {
         requires room { deque_len works.old ≤ vec_capacity handles.old }
         ensures { SpawnsFirst Self.first_of works.old.items works.new.items handles.new.items }
     {}
-}
-
-/// An executor that gives back works which no thread has taken yet, so that who has forked them can run them
-/// if it would only wait for them.
-pub trait Recalls<N: RealmName, W: Ready>: Spawns<N, W> + Drop {
-    /// A share of the executor, by which a work that was given back forks its own. None if std's count of
-    /// holders is full. No clause says whose share it is: what the two have in common lies under a lock.
-    fn share(&self) -> Option<Self>;
-
-    /// A work of a task of the scope that no thread has taken, if there is one, the one that was forked last.
-    /// No thread takes it from then on.
-    fn recall<R: Wait>(&self, rt: &R, scope: ScopeId) -> Option<WorkItem<N, W>>
-        ensures { IfSome result (λ item. item.ticket.scope ≡ scope) };
 }

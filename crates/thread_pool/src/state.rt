@@ -1,11 +1,9 @@
 //! The state of a pool, as data: what each call makes of it.
-ghost use Rattle.std.specs.Prelude.{[], ℕ, ◌++◌, ◌+◌, ◌-◌, ◌<◌, ◌||◌, ◌∷◌, ◌≡◌, ◌≢◌, ◌≤◌, IfSome, MatchOption, MatchResult, OnOk, drop, false, is_some, length, option_to_list, slice_index_or, take, true, vec_len};
-ghost use Rattle.thread_pool.specs.{All, Comes, Goes, IsRefused, IsTold, PoolState.HasRoomFor, Takes, TakesFirst, TakesLast, Tells, Wishes, asked, deque_capacity, deque_len, fitting, is_calling, nobody, takers};
+ghost use Rattle.std.specs.Prelude.{[], ◌++◌, ◌+◌, ◌-◌, ◌<◌, ◌||◌, ◌≡◌, ◌≤◌, MatchOption, MatchResult, OnOk, drop, false, is_some, length, option_to_list, take, true, vec_len};
+ghost use Rattle.thread_pool.specs.{Comes, Goes, IsRefused, IsTold, PoolState.HasRoomFor, Takes, TakesFirst, Tells, Wishes, asked, deque_capacity, deque_len, fitting, is_calling, nobody, takers};
 
 use crate::handoffs::Handoff;
-use crate::items::OfScope;
 use crate::pace::Pace;
-use scope_rules::ScopeId;
 use std::alloc::{AllocError, Global};
 use std::collections::VecDeque;
 use std::marker::Model;
@@ -206,17 +204,6 @@ impl<O: Drop> PoolState<O> {
     }
 }
 
-/// What an owner does with it that helps.
-impl<O: Drop + OfScope> PoolState<O> {
-    /// Takes the last item of the scope out of the queue, if there is one.
-    pub(crate) fn recall(&mut self, scope: ScopeId) -> Option<O>
-        ensures { MatchOption result (All (λ o. O.scope_of o ≢ scope) self.old.books.queue × (self.new.books ≡ self.old.books)) (λ item. TakesLast O.scope_of scope item self.old.books.queue self.new.books.queue × (self.new.books ≡ record self.old.books { queue = self.new.books.queue })) }
-    {
-        let place = last_of(&self.queue, scope)?;
-        self.queue.remove(place)
-    }
-}
-
 /// Moves so many items, the first, to the end of the queue, where there is room for them.
 fn move_first<O>(items: &mut VecDeque<O>, queue: &mut VecDeque<O>, count: usize)
     requires items { count ≤ deque_len items.old }
@@ -230,20 +217,6 @@ fn move_first<O>(items: &mut VecDeque<O>, queue: &mut VecDeque<O>, count: usize)
         };
         queue.push_back_reserved(item);
     }
-}
-
-/// The place of the last item of the scope.
-fn last_of<O: OfScope>(queue: &VecDeque<O>, scope: ScopeId) -> Option<usize>
-    ensures found { MatchOption result (All (λ o. O.scope_of o ≢ scope) queue.now.items) (λ place. (place < length queue.now.items) × ((d : O) → O.scope_of (slice_index_or queue.now.items place d) ≡ scope)) }
-    ensures last { IfSome result (λ place. (k : ℕ) (d : O) → place < k → k < length queue.now.items → O.scope_of (slice_index_or queue.now.items k d) ≢ scope) }
-{
-    for place in (0..queue.len()).rev() {
-        let item = &queue[place];
-        if item.scope() == scope {
-            return Some(place);
-        }
-    }
-    None
 }
 
 /// What the threads of the pool do with it.

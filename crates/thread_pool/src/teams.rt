@@ -1,6 +1,6 @@
 //! The threads that one owner makes, and the tickets of those that it joined.
 
-ghost use Rattle.std.specs.Prelude.{[], ℕ, ◌++◌, ◌<◌, ◌∷◌, ◌≡◌, ◌≤◌, IfSome, MatchOption, OnOk, length, map, nat_lt, slice_index_or, vec_len};
+ghost use Rattle.std.specs.Prelude.{[], ℕ, ◌++◌, ◌<◌, ◌≡◌, ◌≤◌, IfSome, MatchOption, OnOk, length, map, nat_lt, slice_index_or, vec_len};
 ghost use Rattle.thread_pool.specs.{All, ArePartedAt, HasRoom, HasThreadMore, HasThreadsMore, IsPermutation, IsSameTeam, Joins, Teams.HasRoomFor, TicketValue, filter};
 
 use crate::spawning::Spawner;
@@ -98,16 +98,6 @@ impl<N: RealmName, S: Spawner<N>> Team<N, S> {
         while let Some(handle) = handles.pop_front() {
             self.running.push_reserved(Thread { scope, handle });
         }
-    }
-
-    /// Adds the ticket of a work that its owner ran itself, for which there is room.
-    pub fn put(&mut self, ticket: Ticket)
-        requires named { ticket.table ≡ N.table }
-        requires room { 1 ≤ self.old.tickets }
-        ensures running { self.new.running ≡ self.old.running }
-        ensures returned { self.new.returned ≡ self.old.returned ++ ticket ∷ [] }
-    {
-        self.returned.push_reserved(OfRealm::new(ticket));
     }
 
     /// Joins the threads of the scope, and of what was opened later, the latest first. It takes no memory.

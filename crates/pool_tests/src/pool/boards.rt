@@ -32,11 +32,10 @@ impl<L: Drop> Board<L> {
 }
 
 impl<L> Board<L> {
-    /// Counts a run of the work at the place, and gives how many there were, with this one.
-    pub fn note(&self, place: u32) -> u64 {
-        match self.runs.get(place as usize) {
-            Some(runs) => runs.fetch_add(1, Ordering::SeqCst).saturating_add(1),
-            None => 0,
+    /// Counts a run of the work at the place.
+    pub fn note(&self, place: u32) {
+        if let Some(runs) = self.runs.get(place as usize) {
+            let _before = runs.fetch_add(1, Ordering::SeqCst);
         }
     }
 

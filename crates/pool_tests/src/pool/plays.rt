@@ -1,7 +1,6 @@
 //! What the owner of a pool does with it, on a pool of its own.
 ghost use Rattle.std.specs.Prelude.{◌≡◌};
 
-use super::recalls::{owner_helps, owner_takes_all};
 use super::rounds::Played;
 use super::threads::{comes_to, mapped_now, stays_at, threads_now};
 use super::works::Kind::Plain;
@@ -35,10 +34,6 @@ enum Play {
     Keeps(u64),
     /// It forks works one after the other, and counts by how many kilobytes the process grows.
     InTurn,
-    /// It runs works itself that no thread has taken, and counts them.
-    Helps,
-    /// It does so until it ran all three of a round.
-    TakesAll,
 }
 
 /// Works that wait for one another, so many at once, three times.
@@ -102,8 +97,6 @@ fn played<N: RealmName, R: Wait + Files + Alloc + Clock>(
             Ok((0, is_right && stays_at(rt, threads)))
         }
         Play::InTurn => grown(rt, alloc, pool, board),
-        Play::Helps => owner_helps(rt, alloc, pool, board),
-        Play::TakesAll => owner_takes_all(rt, alloc, pool, board),
     }
 }
 
@@ -170,19 +163,5 @@ fn a_pool_keeps_as_many_threads_as_it_was_told(rt: HostRuntime) -> Result<(), Fa
 fn ended_threads_are_joined_as_it_goes(rt: HostRuntime) -> Result<(), Fail> {
     let growth = counted(&rt, 0, Play::InTurn).ok_or("a work ended otherwise")?;
     assert!(rt; growth < GROWTH, "{growth} kB");
-    Ok(())
-}
-
-/// What is given back is the last that was forked, and then the one before it, until none is left.
-#[test]
-fn works_are_taken_back_last_first(rt: HostRuntime) -> Result<(), Fail> {
-    assert!(rt; counted(&rt, 4, Play::TakesAll) == Some(3));
-    Ok(())
-}
-
-/// Each work is run once, by a thread or by its owner, who runs some: a thread that was called comes later.
-#[test]
-fn an_owner_runs_works_that_no_thread_has_taken(rt: HostRuntime) -> Result<(), Fail> {
-    assert!(rt; counted(&rt, 4, Play::Helps).unwrap_or(0) > 0);
     Ok(())
 }

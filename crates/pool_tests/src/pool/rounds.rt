@@ -75,7 +75,7 @@ impl Played {
         for (kind, place, end) in works {
             handles.push((*end, self.fork(rt, spawner, board, *kind, *place)?))?;
         }
-        let _noted = board.note(OWNER);
+        board.note(OWNER);
         for _ in works {
             if let Some((end, handle)) = handles.pop() {
                 let found = join(rt, spawner, handle);

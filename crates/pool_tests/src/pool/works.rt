@@ -20,8 +20,6 @@ pub const INNER: u32 = 30;
 pub enum Kind {
     /// It ends with this number.
     Plain(i64),
-    /// It ends with the number of works that were run at its place, with itself.
-    Counts,
     /// It looks for a run at this place, so often at most, and ends with 1 if there was one, else with 0.
     Meets(u32, u32),
     /// It waits until so many works were run at its own place, with itself, and ends with 1 once they were.
@@ -59,10 +57,9 @@ impl<N: RealmName, S: Spawns<N, PoolWork<N>>> Work<N, S> for PoolWork<N> {
         let (mut ticket, mut spawner) = (ticket, spawner);
         let PoolWork { kind, place, board } = self;
         let token = board.ledger.lock(rt).start(&mut ticket);
-        let runs = board.note(place);
+        board.note(place);
         let end = match kind {
             Kind::Plain(number) => number,
-            Kind::Counts => i64::try_from(runs).unwrap_or(0),
             Kind::Meets(other, looks) => i64::from(is_seen(&board, other, looks)),
             Kind::Gathers(count) => i64::from(is_gathered(&board, place, count)),
             Kind::Tree(depth) => grow(rt, &mut spawner, &board, depth),
