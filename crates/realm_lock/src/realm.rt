@@ -20,13 +20,13 @@ pub(crate) struct Shared<K: Drop> {
     pub(crate) moments: Wakes,
 }
 
-/// How often a call tries to take the lock before it may sleep for it: a hold takes less than a microsecond, and to sleep
-/// and be woken some ten.
+/// How often a call tries to take the lock before it may sleep for it: most holds take less than a microsecond, and to sleep
+/// and be woken takes some ten.
 const TRIES: u32 = 300;
 
 impl<K: Drop> Shared<K> {
-    /// Takes the lock, for a short hold that threads contend for. Std's own lock sleeps at once where one thread does, and
-    /// then so do all that come.
+    /// Takes the lock. It tries some times first, since most holds are short: std's own lock sleeps at once if another
+    /// thread sleeps for it, so all that come then would.
     pub(crate) fn lock<R: Wait>(&self, rt: &R) -> MutexGuard<'_, K> {
         for _ in 0..TRIES {
             if let Some(guard) = self.locked.try_lock() {
